@@ -1,22 +1,26 @@
 /*
- * What the board has of the platform that the image was built for, and the device tree as the host gets it: the proved core reads
- * the one and writes the other (crates/host_tree). One image serves boards with fewer harts and less memory.
+ * Restricts the platform of the image to what the board has, and edits the device tree for the host. The proved core does both
+ * (crates/host_tree). One image serves boards with fewer harts and less memory.
  */
 #include "board.h"
 #include "heap.h"
 
-/* The proved core (crates/pmpmon_monitor). Both answer 0, or why nothing was changed. */
+/* The proved core (crates/pmpmon_monitor). Both return 0, or the reason why nothing was changed. */
 int64_t pmpmon_find_platform(const uint8_t *tree, size_t room, struct platform_frame *platform);
 int64_t pmpmon_put_host_tree(const struct platform_frame *platform, uint64_t pool_base, uint64_t pool_size, uint8_t *tree, size_t room);
 
-/* The pool that the build was given: memory of the host, which its kernel does not use but for enclaves. */
+#ifndef VERSION
+#define VERSION "of no version"
+#endif
+
+/* The pool from the build: memory of the host, which its kernel uses only for enclaves. */
 #ifndef POOL_BASE
 #define POOL_BASE 0ul
 #define POOL_SIZE 0ul
 #endif
 static const uint64_t pool_base = POOL_BASE, pool_size = POOL_SIZE;
 
-/* How many bytes from `at` on are memory of the host, one after another. */
+/* Returns the number of consecutive bytes of the host's memory from `at` on. */
 static uint64_t host_memory_at(uint64_t at)
 {
     uint64_t monitor = platform->monitor_base;
@@ -53,7 +57,7 @@ static void find_pool(void)
     power_off(1);
 }
 
-/* What of the platform is there, and then the tree of the host, which comes last: after a fault the tree is as it was. */
+/* Finds the platform, and then edits the tree for the host. This comes last, so a fault leaves the tree unchanged. */
 static int64_t read_tree(uint64_t tree, struct platform_frame *found)
 {
     uint8_t *at = (uint8_t *)tree;
@@ -61,7 +65,7 @@ static int64_t read_tree(uint64_t tree, struct platform_frame *found)
     return fault ? fault : pmpmon_put_host_tree(found, pool_base, pool_size, at, host_memory_at(tree));
 }
 
-/* A tree for which the heap is too small is read with the memory below it, which is the host's once it runs. */
+/* If the heap is too small for a tree, uses the memory below the tree, which belongs to the host once it runs. */
 #define MORE_HEAP (16ul << 20)
 void find_board(uint64_t tree)
 {
@@ -81,4 +85,21 @@ void find_board(uint64_t tree)
     begin_heap(0, 0);
     platform = &found;
     find_pool();
+}
+
+/* Memory that nobody has written holds zeros, which are no instruction. */
+static int is_loaded(uint64_t at)
+{
+    return host_memory_at(at) >= sizeof(uint16_t) && *(const volatile uint16_t *)at;
+}
+
+void tell_start(uint64_t host)
+{
+    put("monitor: pmpmon " VERSION ", ");
+    put_number((int64_t)harts.count);
+    put(harts.count == 1 ? " hart, " : " harts, ");
+    put_number(ENTRIES);
+    put(is_loaded(host) ? " entries; the host is at " : " entries; no host is loaded at ");
+    put_hex(host);
+    put("\n");
 }

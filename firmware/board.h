@@ -1,4 +1,4 @@
-/* What the files of the firmware have of one another. */
+/* Declarations shared by the files of the firmware. */
 #ifndef BOARD_H
 #define BOARD_H
 #include "frames.h"
@@ -6,13 +6,13 @@
 #define MOST_HARTS 4
 #define MOST_ENCLAVES 64
 
-/* What the host of a hart can ask of it: its registers, and why an enclave stopped there last. */
+/* Facts that the host of a hart can query: identity registers, and why an enclave last stopped there. */
 struct caller {
     uint64_t hart, vendor, architecture, implementation, stop_cause, stop_value;
 };
 
-/* What is done at a trap, as the proved core decides it (crates/sbi_calls): its number, the answer in a0 and a1, and what it is
-   done with. Those before START_HART need no lock. Those from MONITOR on are the monitor's. */
+/* The action for a trap, as the proved core decides it (crates/sbi_calls): its number, the answer in a0 and a1, and its operands.
+   Actions before START_HART need no lock. Those from MONITOR on belong to the monitor. */
 struct action {
     uint64_t kind, error, value, subject, address, opaque;
 };
@@ -20,8 +20,8 @@ enum { GO_ON, TICK, TO_HANDLER, ANSWER, SET_TIMER, INTERRUPT_HARTS, FENCE_INSTRU
 enum { START_HART = PUT_BYTE + 1, STOP_HART, SHUT_DOWN, FAIL, REBOOT };
 enum { MONITOR = REBOOT + 1, ENCLAVE_CALL, ENCLAVE_STOP, ENCLAVE_TICK };
 
-/* The registers of a host or an enclave, where trap.S saves and loads them, and floats.c those of floating point. In x0's place is the
-   hart that its world runs on. */
+/* The registers of a host or an enclave, which trap.S saves and loads, and floats.c for floating point. The slot of x0 holds the
+   hart on which the world runs. */
 struct registers {
     union {
         struct world *hart;
@@ -30,89 +30,89 @@ struct registers {
     uint64_t pc, f[32], fcsr;
 };
 
-/* What there is of each hart. */
+/* The state of each hart. */
 struct world {
-    uint8_t stack[1792];         /* its own, which ends where the rest begins */
+    uint8_t stack[1792];         /* of the hart, ending at the next member */
     struct registers *registers; /* of its world */
-    uint64_t cause, value;       /* what the last trap told */
-    uint64_t ticket;             /* the last that it drew for the lock */
+    uint64_t cause, value;       /* of the last trap */
+    uint64_t ticket;             /* the last ticket drawn for the lock */
     volatile uint32_t is_out;    /* the hart is not halted: its world may run */
-    volatile uint32_t is_wanted; /* it is to leave the place where it is parked */
+    volatile uint32_t is_wanted; /* the hart must leave park */
     uint32_t requests, fences_asked, fences_made; /* harts.c */
-    uint16_t is_stale;           /* its world, its entries or pages are others than when it last ran one */
-    uint16_t floats_kind;        /* what it has of floating point (floats.c) */
-    uint32_t lacks;              /* the control registers that it has not (control.c) */
-    struct control_words host;   /* what its host had in the others, while an enclave runs */
-    uint64_t number; /* of its world: 0 is the host, others are enclaves */
+    uint16_t is_stale;           /* its world, entries or pages changed since it last ran a world */
+    uint16_t floats_kind;        /* its floating-point support (floats.c) */
+    uint32_t lacks;              /* the control registers that are missing (control.c) */
+    struct control_words host;   /* the host's control registers, while an enclave runs */
+    uint64_t number; /* of its world: 0 for the host, otherwise an enclave */
     struct caller caller;
-    struct action action; /* what was decided of its last trap */
+    struct action action; /* the decision on its last trap */
     const struct bank *bank; /* the list of its world */
 } __attribute__((aligned(16)));
 extern struct world worlds[MOST_HARTS];
 _Static_assert(sizeof(struct world) == 1 << 11 && offsetof(struct world, registers) == 1792, "trap.S counts on it");
 _Static_assert(offsetof(struct world, ticket) == 1792 + 24 && offsetof(struct world, is_out) == 1792 + 32, "trap.S counts on it");
 
-/* trap.S: the hart that calls lets go of the monitor and runs its world until a trap needs the monitor, or is parked until another
-   hart wants it. The monitor goes on as the next hart that comes, whose struct world is told. `instructions` counts since the hart
-   was reset. */
+/* trap.S: the calling hart releases the monitor and runs its world until a trap needs the monitor, or is parked until another hart
+   wakes it. The call returns on the next hart that enters the monitor, with its struct world. `instructions` counts since the reset
+   of the hart. */
 struct world *run_world(struct world *world);
 struct world *park(struct world *world);
 uint64_t instructions(void);
-/* The monitor's lock: the next ticket, and the one that is called. */
+/* The monitor's lock: the next ticket, and the ticket now served. */
 extern uint64_t tickets[2];
 
-/* pmp.S: the addresses of as many entries as are used and the words of configuration are loaded, then sfence.vma. */
+/* pmp.S: loads the addresses of the used entries and the configuration words, then executes sfence.vma. */
 void load_bank(const struct bank *bank);
 void read_bank(struct bank *bank);
 uint64_t clear_beyond(void);
-/* entries.c: the board ends where the hart that calls has not the entries of the platform. */
+/* entries.c: stops the board if the calling hart lacks the entries of the platform. */
 void check_entries(void);
 
 /* serve.c: the list of the host. */
 extern struct bank host_bank;
 int differ(const uint64_t *a, const uint64_t *b, unsigned count);
-/* The frame of a trap of a world is put. This, what control.c adds to it and what registers.c does with an answer come last: each tells
-   how many bytes were read or written, so that none of them comes back for that. */
+/* Writes the frame of a world's trap. This function, control.c's part of it and registers.c's handling of an answer are tail calls:
+   each returns the number of bytes read or written. */
 int64_t put_trap(const struct world *world, uint64_t tag, struct trap_frame *frame);
-/* Makes pages of memory that are not the monitor's zero. */
+/* Zeroes pages of memory, except the monitor's. */
 void make_zero(uint64_t first, uint64_t count);
 
-/* reset.c: the pages of an enclave are private, until they are made zero. */
+/* reset.c: records the private pages of an enclave, until they are zeroed. */
 void private_begin(uint64_t enclave, uint64_t first, uint64_t count);
 void private_end(uint64_t first, uint64_t count);
-/* Whether a page is one of the private pages of an enclave. */
+/* Returns whether a page is a private page of an enclave. */
 int is_private_page(uint64_t enclave, uint64_t page);
-/* Zeroes all private pages. After a trap in it the next call goes on with the page after the one that trapped. */
+/* Zeroes all private pages. After a trap in it, the next call continues with the page after the one that trapped. */
 void forget_private(void);
-/* Stops the other harts for good, and zeroes all private pages and all registers of worlds. */
+/* Stops the other harts permanently, and zeroes all private pages and all registers of worlds. */
 void forget(void);
-/* The board ends, or begins anew, and no private page is left as it was. */
+/* Zeroes all private pages and stops or restarts the board. */
 _Noreturn void end_board(uint64_t status);
-/* The same, with the words that say why, and a number. */
+/* Stops the board with a reason and a number. */
 _Noreturn void end_because(const char *why, int64_t number);
 _Noreturn void begin_anew(void);
 
-/* traps.c: runs the hart's world until the monitor has to know of a trap, of this hart or the next that comes, and puts its frame. */
+/* traps.c: runs the hart's world until a trap concerns the monitor, on this hart or the next that enters, and writes its frame. */
 int64_t next_trap(struct trap_frame *frame);
-/* Whether the trap of this hart's world is served, without the monitor: trap.S calls it on the hart's own stack. */
+/* Serves a trap of this hart's world without the monitor, or returns 0. trap.S calls it on the hart's own stack. */
 int serve_alone(struct world *world);
-/* What is done with an answer that has lists, and with the end, beside loading it. */
+/* Further handling of an answer with lists, and of the end. */
 void answered(const struct answer_frame *answer);
 _Noreturn void ended(const struct end_frame *end);
 
-/* registers.c: the registers of the hosts of the harts, and behind them those of enclaves by their numbers. */
+/* registers.c: the registers of the harts' hosts, followed by those of the enclaves by number. */
 extern struct registers register_sets[MOST_HARTS + MOST_ENCLAVES];
 static inline struct registers *registers_of(uint64_t hart, uint64_t world)
 {
     return &register_sets[world ? MOST_HARTS - 1 + world : hart];
 }
-/* A set as a world begins: all zero but the pc and a0. */
+/* Initializes a set: all zero except the pc and a0. */
 void registers_begin(struct registers *set, uint64_t pc, uint64_t a0);
-/* What an answer says of them is done, last of all: how many bytes were written is told. */
+/* Applies the answer's changes, as a tail call: returns the number of bytes written. */
 int64_t registers_change(uint64_t written, const struct answer_frame *answer);
 
-/* control.c: the registers of machine and supervisor mode that decide what a world can do, read for a frame and written from
-   one on the hart that calls. `control_find` comes once for each hart, and finds which of them it has. */
+/* control.c: the machine-mode and supervisor-mode registers that control a world, read for a frame and written from one on the
+   calling hart. `control_find` is called once on each hart, and finds which of the registers exist. */
 void control_find(void);
 void control_at_start(void);
 int64_t control_told(struct trap_frame *frame);
@@ -120,13 +120,13 @@ void control_enter(struct world *self, const struct control_words *words, uint64
 void control_leave(const struct world *self);
 void control_to_handler(struct world *world);
 
-/* floats.c, on the hart that calls: what it has is found; another world goes on; and its host begins, with zeros. */
+/* floats.c, on the calling hart: detects its support; switches to another world; and starts its host, with zeros. */
 #define FLOATS_DIRTY (3ul << 13) /* FS of mstatus */
 void floats_find(struct world *self);
 void floats_change(const struct world *self, const struct registers *next, uint64_t status);
 void floats_at_start(struct world *self);
 
-/* harts.c, with the states of the harts, hart h in bit h: one that is in neither word is stopped. They change with the lock. */
+/* harts.c: the states of the harts, hart h in bit h. A hart in neither word is stopped. Only the lock holder changes them. */
 struct harts {
     uint64_t count, started, pending;
 };
@@ -135,8 +135,8 @@ static inline int is_started(uint64_t hart)
 {
     return harts.started >> hart & 1;
 }
-/* The states, which a hart without the lock may read while they change, and others in their place, with the lock. A hart in `started` is
-   started, whatever `pending` says. So a reader of `started` first, and a writer of `pending` first, agree on a state that there was. */
+/* Reads the states, which may change meanwhile if the caller lacks the lock; or writes them, with the lock. A hart in `started` is
+   started, whatever `pending` contains. Reading `started` first, and writing `pending` first, gives a state that did exist. */
 static inline struct harts seen_harts(void)
 {
     struct harts seen = {.count = harts.count};
@@ -155,16 +155,16 @@ static inline uint64_t this_hart(void)
     __asm__ volatile("csrr %0, mhartid" : "=r"(hart)::"memory");
     return hart;
 }
-/* The harts of a set, hart h in bit h, run no world from here on, and read nothing that others write of them; those of an earlier set
-   that are not in this one go on. The hart that calls has the monitor's lock, and is in no set. It waits for each of them, however long
-   that takes. */
+/* Stops the harts of a set, hart h in bit h: from here on they run no world, and read nothing that others write about them. Harts of an
+   earlier set that are not in this one continue. The caller holds the monitor's lock, and is not in the set. It waits for each hart
+   without a limit. */
 void stop_harts(uint64_t set);
-/* A hart takes a software interrupt, or looks again at what it waits for. */
+/* Sends a hart a software interrupt, so that it takes it or rechecks its wait condition. */
 void interrupt(uint64_t hart);
-/* A started hart of the host will find its software interrupt. */
+/* Makes a software interrupt pending for the host of a started hart. */
 void interrupt_supervisor(uint64_t hart);
-/* The harts of a set, hart h in bit h, execute sfence.vma or fence.i, or both, before they run their worlds on: whether each has
-   said so in ten seconds. */
+/* Makes the harts of a set, hart h in bit h, execute sfence.vma or fence.i, or both, before they continue their worlds. Returns whether
+   each has done so within ten seconds. */
 #define FENCE_VMA 1u
 #define FENCE_I 2u
 int fence_harts(uint64_t set, uint32_t kinds);
@@ -175,15 +175,15 @@ static inline void fence_here(uint32_t kinds)
     if (kinds & FENCE_I)
         __asm__ volatile("fence.i" ::: "memory");
 }
-/* Does what other harts asked this one for. */
+/* Serves the requests of other harts to this one. */
 void take_requests(struct world *self);
-/* Before this hart runs its world: it stands still while it is stopped, and does what was asked for. Where something is stale it
-   loads its entries, and executes sfence.vma and fence.i. */
+/* Called before this hart runs its world: waits while it is stopped, and serves requests. If something is stale, loads its entries, and
+   executes sfence.vma and fence.i. */
 void load_changes(struct world *self);
 void start_others(void);
 void unpark(uint64_t hart);
 
-/* timer.c: machine mode's timer, and the host's, which is stimecmp where the hart has it. */
+/* timer.c: machine mode's timer, and the host's, which is stimecmp if the hart has it. */
 void timer_off(void);
 void timer_at(uint64_t time);
 uint64_t timer_now(void);
@@ -192,7 +192,7 @@ void host_timer_begin(void);
 void host_timer_at(uint64_t time);
 void host_timer_came(void);
 
-/* uart.c, memory.c. What ends the board there leaves memory as it is. */
+/* uart.c, memory.c. Stopping the board here does not change memory. */
 void put(const char *text);
 void put_char(char c);
 void put_hex(uint64_t number);
@@ -203,8 +203,7 @@ void *memcpy(void *to, const void *from, size_t n);
 void *memmove(void *to, const void *from, size_t n);
 void *memset(void *to, int value, size_t n);
 
-/* Words of 64 bits from one place to another that does not overlap. With a number that is known where it is compiled each is a load
-   and a store. */
+/* Copies 64-bit words to a place that does not overlap. With a constant number each word is one load and one store. */
 static inline __attribute__((always_inline)) void copy_words(uint64_t *to, const uint64_t *from, unsigned n)
 {
 #pragma GCC unroll 64
@@ -212,15 +211,17 @@ static inline __attribute__((always_inline)) void copy_words(uint64_t *to, const
         to[i] = from[i];
 }
 
-/* The platform as a frame: that of the build until find_board has looked what of it is there. */
+/* The platform as a frame: that of the build until find_board has restricted it. */
 extern const struct platform_frame *platform;
 static inline unsigned hart_count(void)
 {
     return (unsigned)platform->harts;
 }
 
-/* board.c: of the platform the harts and the memory that the board's device tree has, and the tree as the host gets it. */
+/* board.c: restricts the platform to the harts and the memory of the board's device tree, and edits the tree for the host. */
 void find_board(uint64_t tree);
+/* Prints what starts, in one line: the version, the harts, their entries, and whether a host is loaded at this address. */
+void tell_start(uint64_t host);
 
 #define READ(csr)                                                                                                      \
     ({                                                                                                                 \
@@ -238,8 +239,8 @@ void find_board(uint64_t tree);
 #define SET(csr, bits) __asm__ volatile("csrs " #csr ", %0" ::"r"((uint64_t)(bits)) : "memory")
 #define CLEAR(csr, bits) __asm__ volatile("csrc " #csr ", %0" ::"r"((uint64_t)(bits)) : "memory")
 
-/* Whether the hart does an instruction, which may change t1. One that it has not is illegal, and the monitor returns from that trap by
-   mret: a hart with Smdbltrp takes a second trap before it as fatal. */
+/* Returns whether the hart supports an instruction, which may change t1. Otherwise it is illegal, and the monitor returns from that trap
+   with mret: on a hart with Smdbltrp a second trap before that would be fatal. */
 #define DOES(instruction)                                                                                              \
     ({                                                                                                                 \
         uint8_t does_it_;                                                                                              \
@@ -248,7 +249,7 @@ void find_board(uint64_t tree);
                          : "=&r"(does_it_)::"t0", "t1", "memory");                                                     \
         does_it_;                                                                                                      \
     })
-/* Whether it has a register. */
+/* Returns whether it has a register. */
 #define IS_THERE(csr) IS_THERE_(csr)
 #define IS_THERE_(csr) DOES("csrr t1, " #csr)
 

@@ -1,23 +1,23 @@
 /*
- * The registers of machine and supervisor mode that decide what a world can do beside the entries. They stay in the hart while its
- * world goes on. Where the host enters an enclave each gets the word that the proved monitor answers with (crates/trap_server), and
- * what it had is kept until the host goes on. With which words a hart begins is decided here alone (at_start). A reader compares the
- * table with the first one of "Control registers" in firmware/README.md.
+ * The machine-mode and supervisor-mode registers that control a world, besides the entries. They stay in the hart while its world
+ * runs. When the host enters an enclave, each gets the word from the proved monitor's answer (crates/trap_server), and its old value
+ * is stored until the host resumes. The initial words of a hart are defined only here (at_start). Compare the table below with the
+ * first one of "Control registers" in firmware/DESIGN.md.
  */
 #include "board.h"
 
 #define ALL (~0ul)
 #define UXL (3ul << 32)
-/* Of mstatus: SIE, SPIE, UBE, SPP, VS, FS, XS, SUM, MXR, UXL. */
+/* Bits of mstatus: SIE, SPIE, UBE, SPP, VS, FS, XS, SUM, MXR, UXL. */
 #define STATUS (1ul << 1 | 1ul << 5 | 1ul << 6 | 1ul << 8 | 3ul << 9 | 3ul << 13 | 3ul << 15 | 1ul << 18 | 1ul << 19 | UXL)
 
-/* Of mstatus too: the mode that mret goes to, MPP and MPV. */
+/* Further bits of mstatus: the mode to which mret returns, MPP and MPV. */
 #define MPP (3ul << 11)
 #define MPP_SUPERVISOR (1ul << 11)
 #define MPV (1ul << 39)
 
-/* The word of a frame, its register (a number, where the assembler may not know the name), and which bits of it change with the world.
-   Two words beside these are of mstatus: status has the bits of STATUS, and mode has MPP and MPV. */
+/* The word of a frame, its register (as a number if the assembler may not know the name), and the bits that change with the world.
+   Two further words are parts of mstatus: status has the bits of STATUS, and mode has MPP and MPV. */
 #define CONTROL_REGISTERS(X)                                                                                           \
     X(satp, satp, ALL)                                                                                                 \
     X(mie, mie, ALL)                                                                                                   \
@@ -31,13 +31,13 @@
 /* Machine mode's interrupts: software and timer. */
 #define MONITORS_INTERRUPTS (1ul << 3 | 1ul << 7)
 #define HOSTS_INTERRUPTS (SOFTWARE_OF_SUPERVISOR | TIMER_OF_SUPERVISOR | EXTERNAL_OF_SUPERVISOR)
-/* The host's own handler gets every exception of the host but its calls. */
+/* The host's own handler gets every exception of the host except its calls. */
 #define HOSTS_EXCEPTIONS 0xf0b5fful
 
-/* The time alone, which Linux's programs read. Cycles and instructions go on in an enclave, and would tell its host each branch. */
+/* Only the time, which Linux programs read. Cycle and instruction counters also count in an enclave, and would reveal each branch. */
 #define COUNTERS (1ul << 1)
 
-/* What a hart begins with: its first world is the host, in supervisor mode. */
+/* The initial words of a hart, whose first world is the host, in supervisor mode. */
 static const struct control_words at_start = {
     .status = WIDTH_64,
     .mie = MONITORS_INTERRUPTS,
@@ -52,8 +52,8 @@ enum {
     CONTROL_REGISTERS(NUMBER)
 #undef NUMBER
 };
-/* Which of the registers a hart lacks, by their numbers. Their words are zero, and not looked at. Where there is supervisor mode there
-   is scounteren, which control_told reads. */
+/* Records the registers that a hart lacks, by number. Their words are zero, and ignored. A hart with supervisor mode has scounteren,
+   which control_told reads. */
 static void find_registers(struct world *self)
 {
 #define FIND(word, csr, bits) self->lacks |= (uint32_t)!IS_THERE(csr) << NUMBER_##word;
@@ -68,7 +68,7 @@ static inline uint64_t mixed(uint64_t old, uint64_t word, uint64_t bits)
     return old ^ ((old ^ word) & bits);
 }
 
-/* A register gets a word, and what it had is kept where there is a place for it. Where not all of it is a world's these bits change. */
+/* Writes a word to a register, and stores the old value if there is a place for it. Only the given bits change. */
 #define CHANGE(word, csr, bits)                                                                                        \
     {                                                                                                                  \
         uint64_t old = (bits) == ALL ? SWAP(csr, words->word) : READ(csr);                                             \
@@ -90,7 +90,7 @@ static inline void change(const struct world *self, const struct control_words *
     }
 }
 
-/* The host of this hart enters an enclave: its words are kept, with the status that is told. */
+/* The host of this hart enters an enclave: stores its words, with the given status. */
 void control_enter(struct world *self, const struct control_words *words, uint64_t status)
 {
     self->host.status = status & STATUS;
@@ -98,13 +98,13 @@ void control_enter(struct world *self, const struct control_words *words, uint64
     change(self, words, &self->host);
 }
 
-/* It goes on, with the words that it had. */
+/* The host resumes with its words. */
 void control_leave(const struct world *self)
 {
     change(self, &self->host, 0);
 }
 
-/* Of the words of the world that trapped those on which an enclave's depend. */
+/* Adds the trapping world's words from which those of an enclave are derived. */
 int64_t control_told(struct trap_frame *frame)
 {
     frame->mie = READ(mie);
@@ -113,18 +113,18 @@ int64_t control_told(struct trap_frame *frame)
 }
 
 /*
- * Of menvcfg: what a hart has of Sstc, Zicboz and Zicbom its device tree says, so it is the host's. User mode has no stimecmp, and of the
- * other two what senvcfg lets in. cbo.inval writes blocks back (CBIE 1): dropped, a page that was made zero could be what it was before.
- * Memory types (PBMTE) stay closed: through a page that is not cached a host could read what memory holds under the zeros in a cache, or
- * have an enclave measured with other bytes than it executes.
+ * Bits of menvcfg. The device tree lists Sstc, Zicboz and Zicbom if the hart has them, so the host may use them. User mode has no
+ * stimecmp, and the other two only as senvcfg allows. cbo.inval writes blocks back (CBIE 1): if it dropped them, a zeroed page could
+ * get its old bytes back. Memory types (PBMTE) stay disabled: through an uncached page a host could read the bytes in memory under
+ * the zeros in a cache, or have an enclave measured with other bytes than it executes.
  */
 #define STCE (1ul << 63)
 #define CBZE (1ul << 7)
 #define CBCFE (1ul << 6)
 #define CBIE_FLUSH (1ul << 4)
 
-/* Of the registers that a hart closes or opens to modes below (Smstateen): senvcfg and henvcfg, and fcsr where floats are in integer
-   registers. All else that they open stays closed. */
+/* Bits of the registers that control the access of lower modes to state (Smstateen): senvcfg and henvcfg, and fcsr if floats are in
+   integer registers. All other state stays inaccessible. */
 #define ENVCFG (1ul << 62)
 #define FCSR (1ul << 1)
 
@@ -133,8 +133,8 @@ int64_t control_told(struct trap_frame *frame)
 #define SPP (1ul << 8)
 #define SPV (1ul << 7) /* of hstatus */
 
-/* A trap of the host that was not delegated goes on at its handler, with the registers as delegation leaves them, but for those that
-   say more of a guest. */
+/* Forwards a trap of the host that was not delegated to its handler, with the registers as delegation would leave them, except those
+   with further information on a guest. */
 void control_to_handler(struct world *world)
 {
     uint64_t status = READ(mstatus), handler = READ(stvec);
@@ -168,8 +168,8 @@ void control_find(void)
     host_timer_find(IS_THERE(0x14d)); /* stimecmp */
 }
 
-/* The hart has run no world, or the host stopped it: the host will be the next, in supervisor mode. Of mstatus all else is zero but SXL,
-   which is 64 bits too. */
+/* The hart has run no world, or the host stopped it: the next world will be the host, in supervisor mode. The other bits of mstatus are
+   zero, except SXL, which is also 64 bits. */
 void control_at_start(void)
 {
     struct world *self = &worlds[this_hart()];

@@ -1,12 +1,12 @@
-/* A hart's entries, tried before it runs a world: one that it has not, that an earlier stage locked, or that lacks bits of an
-   address, would open or close what no plan says. */
+/* Tests a hart's entries before it runs a world. An entry that is missing, locked by an earlier stage, or without some address bits
+   would make permissions differ from the plan. */
 #include "board.h"
 
 #define LOWEST_PAGE 0x1fful
 #define CLOSED 0x1818181818181818ul /* NAPOT, without and with all permissions */
 #define OPEN 0x1f1f1f1f1f1f1f1ful
 
-/* All bits of an address register that the platform's addresses need. */
+/* Returns all bits of an address register that the platform's addresses need. */
 static uint64_t highest(void)
 {
     uint64_t end = 0, bits = LOWEST_PAGE;
@@ -19,7 +19,7 @@ static uint64_t highest(void)
     return bits;
 }
 
-/* Each register gets each bit and its opposite. */
+/* Tests each bit of each register with both values. */
 static int are_there(void)
 {
     static struct bank given = {.used = ENTRIES}, got;
@@ -39,7 +39,7 @@ static int are_there(void)
     return !clear_beyond();
 }
 
-/* Of mseccfg (Smepmp): rules for machine mode itself, and leave to change locked entries. The rest opens a source of random numbers. */
+/* Bits of mseccfg (Smepmp): rules for machine mode itself, and permission to change locked entries. The others enable the entropy source. */
 #define MML_MMWP_RLB 7ul
 static void check_rules(void)
 {

@@ -1,6 +1,6 @@
 /*
- * The monitor and its firmware stand at the start of the range that the platform gives the monitor. Code, constants and data have
- * pages and a segment each: none is both written and executed. Nothing holds a hart to it, since no entry binds machine mode.
+ * The monitor and its firmware are at the start of the monitor's range in the platform. Code, constants and data have separate pages
+ * and segments: none is both writable and executable. The hardware does not enforce this, because no entry applies to machine mode.
  */
 ENTRY(_start)
 PHDRS

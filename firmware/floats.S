@@ -1,6 +1,6 @@
 /*
- * The 32 registers of floating point, kept in memory and loaded from it: each in eight bytes, as doubles, or as singles on a hart
- * that has no doubles. The rest of the monitor uses none of them.
+ * Stores the 32 floating-point registers in memory and loads them: each in eight bytes, as doubles, or as singles on a hart without
+ * doubles. The rest of the monitor does not use them.
  */
     .option arch, +d
     .macro  all_floats name, what

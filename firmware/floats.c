@@ -1,11 +1,11 @@
 /*
- * The registers of floating point: f0 to f31 and fcsr. The host of each hart has a set, and each enclave has one, which goes with it
- * from hart to hart. That of a world which runs is in its hart, and the others are kept. Which world goes on the proved answer
- * says, and FS of an enclave's status word is the core's too (crates/trap_server).
+ * The floating-point registers: f0 to f31 and fcsr. The host of each hart has a set, and each enclave has one, which moves with it
+ * from hart to hart. The set of a running world is in its hart, and the others are in memory. The proved answer determines which
+ * world resumes, and FS of an enclave's status word (crates/trap_server).
  */
 #include "board.h"
 
-/* What a hart has of them. Where floats are in its integer registers (Zfinx) it has fcsr alone, which no FS closes. */
+/* The support of a hart. If floats are in its integer registers (Zfinx), it has only fcsr, which FS does not disable. */
 enum { NONE, FCSR_ALONE, SINGLES, DOUBLES };
 
 void keep_doubles(uint64_t *f);
@@ -30,8 +30,8 @@ static void load(const struct world *self, const struct registers *set)
         load_singles(set->f);
 }
 
-/* An enclave goes on with FS Initial. Where it is not Dirty when another world follows, f0 to f31 are those that it was given. The
-   host's set is kept whatever its FS says: it may have changed that itself. FS is then as the next world's status word has it. */
+/* An enclave resumes with FS Initial. If FS is not Dirty when another world follows, f0 to f31 are unchanged. The host's set is always
+   stored, because the host may have changed FS itself. FS then comes from the next world's status word. */
 void floats_change(const struct world *self, const struct registers *next, uint64_t status)
 {
     if (!self->floats_kind)
@@ -43,8 +43,8 @@ void floats_change(const struct world *self, const struct registers *next, uint6
     load(self, next);
 }
 
-/* What a hart has is found by trying. */
-#define QUADS (1ul << 16) /* of misa: the upper half of each register would stay for the next world */
+/* Detects the support of a hart by trial. */
+#define QUADS (1ul << 16) /* of misa: the upper half of each register would leak to the next world */
 void floats_find(struct world *self)
 {
     if (READ(misa) & QUADS)

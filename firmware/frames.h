@@ -1,10 +1,10 @@
-/* The frames between the board and the proved monitor: 64-bit words, the lowest byte first (docs/FORMATS.md, "Frames"). */
+/* The frames between the board and the proved monitor: little-endian 64-bit words (docs/formats/calls.md, "Frames"). */
 #ifndef FRAMES_H
 #define FRAMES_H
 #include <stddef.h>
 #include <stdint.h>
 
-/* A tag is its eight letters, zero after the last. */
+/* A tag consists of up to eight letters, padded with zeros. */
 #define TAG(a, b, c, d, e, f, g, h)                                                                                    \
     ((uint64_t)(a) | (uint64_t)(b) << 8 | (uint64_t)(c) << 16 | (uint64_t)(d) << 24 | (uint64_t)(e) << 32 |            \
      (uint64_t)(f) << 40 | (uint64_t)(g) << 48 | (uint64_t)(h) << 56)
@@ -29,50 +29,50 @@ struct platform_frame {
     } device[MOST_RANGES];
 };
 
-/* Read for each trap: a call, or what stops an enclave, an interrupt or a thing that it may not do. call[0] is a0. Of the control words
-   of the world that trapped it has the two that an enclave's depend on. */
+/* Read for each trap: a call, or a stop of an enclave by an interrupt or a forbidden operation. call[0] is a0. mie and scounteren are
+   the trapping world's control words from which those of an enclave are derived. */
 struct trap_frame {
     uint64_t tag, hart, call[8], mie, scounteren;
 };
 
-/* Read after each page that is asked for. */
+/* Read for each page that the monitor requests. */
 struct page_frame {
     uint64_t tag, page;
     uint8_t bytes[PAGE];
 };
 
-/* A list of entries: how many are used, and the registers, pmpcfg0, pmpcfg2, .. and pmpaddr0, pmpaddr1, .. */
+/* A list of entries: the number in use, and the registers, pmpcfg0, pmpcfg2, .. and pmpaddr0, pmpaddr1, .. */
 struct bank {
     uint64_t used, cfg[8], addr[64];
 };
 
-/* What becomes of a register set: that of an enclave by its number, or where `whose` is 0 that of the host of the answer's hart. The
-   pc goes past a call; two words are put into a0 and a1; all is zero but the pc and a0, `first` and `whose`; or all is zero. */
+/* A change of a register set: that of an enclave by number, or if `whose` is 0 that of the host of the answer's hart. The pc moves past
+   a call; two words are stored in a0 and a1; all is zero except the pc and a0, which are `first` and `whose`; or all is zero. */
 enum { NO_CHANGE, PAST_CALL, TWO_WORDS, FIRST_ENTRY, ALL_ZERO };
 struct set_change {
     uint64_t kind, whose, first, second;
 };
 
-/* What an enclave has in the control registers (control.c says of which each word is). */
+/* An enclave's values of the control registers, which control.c lists. */
 struct control_words {
     uint64_t status, satp, mie, scounteren, senvcfg, hstatus, medeleg, mideleg, mode;
 };
 
-/* Written: with what a hart goes on. After it come the lists of entries that are new, list_count of them: the host's, and that of the
-   enclave that was made, whose number is the value; and behind them control words, 9 where a host enters an enclave and otherwise 0.
-   The changes are made in their order. */
+/* Written: the state with which a hart continues. The new lists of entries follow it, list_count of them: the host's, and that of the
+   created enclave, whose number is the value; and then control words, 9 if a host enters an enclave and otherwise 0. The changes are
+   made in their order. */
 struct answer_frame {
     uint64_t tag, hart, world, status, value, used, zero_first, zero_count, wake, list_count, word_count;
     struct set_change changes[3];
     struct bank lists[];
 };
 
-/* Written: pages to be read, one after another. */
+/* Written: consecutive pages to be read. */
 struct measure_frame {
     uint64_t tag, first, count;
 };
 
-/* Written last: why nothing is served any more. */
+/* Written last: the reason why the loop ended. */
 struct end_frame {
     uint64_t tag, reason, detail;
 };

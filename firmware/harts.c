@@ -1,7 +1,7 @@
 /*
- * The harts of the board, and what they ask of one another, by software interrupts. A hart that waits for the monitor's lock, has it,
- * is parked or is stopped, is halted: it runs no world, and before it does it looks for requests and whether it is to stop
- * (load_changes). Others take the interrupt.
+ * The harts of the board, and their requests to one another by software interrupts. A hart that waits for the monitor's lock, holds
+ * it, is parked or is stopped, is halted: it runs no world, and before it does it checks for requests and stops (load_changes). Other
+ * harts take the interrupt.
  */
 #include "board.h"
 
@@ -13,11 +13,10 @@ static volatile uint32_t *const software_interrupt = (volatile uint32_t *)0x2000
 
 struct harts harts = {.started = 1};
 
-/* What is asked of a hart (requests). Beside it is counted how often it was asked for fences, and how often before it last made
-   them. */
+/* Requests to a hart. Two counters next to them count the requests for fences, and those before the last fences made. */
 #define FENCES 3u /* a bit for each kind */
 #define INTERRUPT_OF_HOST 4u
-/* Which harts are to stand still, hart h in bit h. The hart with the lock writes it. */
+/* The harts that must stop, hart h in bit h. Only the lock holder writes it. */
 static uint64_t stopping;
 
 void interrupt(uint64_t hart)
@@ -26,7 +25,7 @@ void interrupt(uint64_t hart)
     software_interrupt[hart] = 1;
 }
 
-/* They are counted before they are made, so that no request is counted that comes later. */
+/* They are counted before they are made, so that later requests are not counted. */
 static void make_fences(struct world *self)
 {
     uint32_t asked = __atomic_load_n(&self->fences_asked, __ATOMIC_ACQUIRE);
@@ -37,7 +36,7 @@ static void make_fences(struct world *self)
 void take_requests(struct world *self)
 {
     software_interrupt[this_hart()] = 0;
-    __asm__ volatile("fence" ::: "memory"); /* a later wish of another hart comes after this */
+    __asm__ volatile("fence" ::: "memory"); /* orders this before later requests of other harts */
     make_fences(self);
     if (__atomic_fetch_and(&self->requests, FENCES, __ATOMIC_SEQ_CST) & INTERRUPT_OF_HOST && is_started(this_hart()))
         SET(mip, SOFTWARE_OF_SUPERVISOR);
@@ -48,8 +47,8 @@ static int is_to_stop(uint64_t hart)
     return __atomic_load_n(&stopping, __ATOMIC_ACQUIRE) >> hart & 1;
 }
 
-/* Who stops this hart or asks it for a fence waits for it from here on, or has said so before and is heard here. Once the hart is let
-   go it looks again: another stop may have begun, which took it as halted. */
+/* A hart that stops this one or requests a fence either sees is_out and waits, or made its request before and is seen here. After a stop
+   this hart checks again: another stop may have begun, which saw it as halted. */
 static inline int goes_out(struct world *self)
 {
     self->is_out = 1;
@@ -76,7 +75,7 @@ void load_changes(struct world *self)
         return;
     self->is_stale = 0;
     load_bank(self->bank);
-    fence_here(FENCE_I); /* pages may have other bytes than when this hart last ran a world */
+    fence_here(FENCE_I); /* pages may have changed since this hart last ran a world */
 }
 
 static int is_other(uint64_t set, uint64_t hart)
@@ -84,7 +83,7 @@ static int is_other(uint64_t set, uint64_t hart)
     return hart != this_hart() && (set >> hart & 1);
 }
 
-/* It makes its own fences meanwhile: the other may wait for them. */
+/* Makes this hart's own fences meanwhile, because the other hart may wait for them. */
 static int has_fenced(const struct world *other, uint32_t number, uint64_t last)
 {
     while (other->is_out && (int32_t)(__atomic_load_n(&other->fences_made, __ATOMIC_ACQUIRE) - number) < 0) {
@@ -113,8 +112,8 @@ int fence_harts(uint64_t set, uint32_t kinds)
     return is_made;
 }
 
-/* That time passes does not mean that a hart will never stop: its core may have been given to others. It is waited for, and that is said
-   once: what it could still access is neither opened to others nor made zero before. */
+/* A timeout does not mean that a hart will never stop: its core may be running other work. So this waits on, with one message: before
+   the hart stops, the pages that it could still access must neither be opened to others nor zeroed. */
 static void wait_for_halt(uint64_t hart)
 {
     uint64_t last = timer_now() + TEN_SECONDS;
@@ -150,7 +149,7 @@ void interrupt_supervisor(uint64_t hart)
     interrupt(hart);
 }
 
-/* trap.S waits for it. */
+/* Wakes a hart that waits in trap.S. */
 void unpark(uint64_t hart)
 {
     worlds[hart].is_wanted = 1;
@@ -158,7 +157,7 @@ void unpark(uint64_t hart)
     software_interrupt[hart] = 1;
 }
 
-/* A platform that names a hart which the board has not would wait for it at the first stop. */
+/* If the board lacked a hart of the platform, the first stop would wait for it forever. */
 static void wait_for(uint64_t hart)
 {
     uint64_t last = timer_now() + TEN_SECONDS;

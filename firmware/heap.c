@@ -1,6 +1,6 @@
-/* The heap that Rattle's collections take: blocks of powers of two from one arena, kept by size when they are given back. It is what
-   the kit's C code (c/liblibc_c.a, heap.o) does over malloc, realloc and free: a request of no bytes takes `align` bytes, and a
-   refused one answers a pointer to something. */
+/* The heap for Rattle's collections: blocks of powers of two from one arena, with free lists by size. It has the interface of the
+   kit's C code over malloc, realloc and free (c/liblibc_c.a, heap.o): a request for no bytes allocates `align` bytes, and a failed one
+   returns a valid pointer. */
 #include "heap.h"
 #include <stdint.h>
 
@@ -20,7 +20,7 @@ size_t heap_most, heap_blocks, heap_calls, heap_refused_call;
 
 void *memcpy(void *to, const void *from, size_t n);
 
-/* No frame of its own: it is the deepest call of a boot. */
+/* Without a frame of its own, because it is the deepest call of a boot. */
 static __attribute__((noinline)) struct tried take(size_t bytes)
 {
     uint64_t class = 0;

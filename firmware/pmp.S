@@ -1,5 +1,5 @@
 /*
- * The entries of a hart, in the words of a struct bank. ENTRIES is how many the platform says; pmpcfg0 is 0x3a0, and pmpaddr0 0x3b0
+ * Loads and reads the entries of a hart as a struct bank. ENTRIES is their number in the platform; pmpcfg0 is 0x3a0, and pmpaddr0 0x3b0
  * (Privileged Architecture, "Physical Memory Protection CSRs").
  */
     .macro  each what, csr, step, at, many  # the highest first
@@ -19,9 +19,9 @@
     .endm
 
 /*
- * void load_bank(const struct bank *): the addresses of the entries that are used, then the configuration, which has the others off.
- * So no entry is in force with another's address; in machine mode none of them binds meanwhile, since none is locked. Translations
- * that may hold the old permissions are dropped, those of a guest too where the hart has guests.
+ * void load_bank(const struct bank *): writes the addresses of the used entries, then the configuration, in which the others are off.
+ * So no entry takes effect with the address of another; meanwhile none of them applies to machine mode, because none is locked. Then
+ * flushes translations that may contain the old permissions, including those of guests if the hart has the hypervisor extension.
  */
     .text
     .globl  load_bank
@@ -43,7 +43,7 @@ load_bank:
     .insn   r 0x73, 0, 0x31, x0, x0, x0 # hfence.gvma
 1:  ret
 
-/* void read_bank(struct bank *): what the registers have. */
+/* void read_bank(struct bank *): reads the registers. */
     .globl  read_bank
 read_bank:
     each    get, 0x3b0, 1, 72, ENTRIES
@@ -51,8 +51,8 @@ read_bank:
     ret
 
 /*
- * uint64_t clear_beyond(void): makes the entries beyond those of the platform zero, up to the first that the hart has not, and says
- * which bits of their configuration are not.
+ * uint64_t clear_beyond(void): zeroes the entries beyond those of the platform, up to the first that the hart lacks, and returns the
+ * bits of their configuration that are not zero.
  */
     .globl  clear_beyond
 clear_beyond:
@@ -68,7 +68,7 @@ clear_beyond:
     .endr
     j       2f
     .balign 4
-1:  la      t0, 2f              # the trap is returned from, as a hart with Smdbltrp wants it
+1:  la      t0, 2f              # returns from the trap, as Smdbltrp requires
     csrw    mepc, t0
     mret
 2:  csrw    mtvec, t1

@@ -1,6 +1,6 @@
 /*
- * The registers of the host of each hart, and of each enclave, which go with it from hart to hart: x1 to x31 and the pc. trap.S saves
- * those of the world that runs into their set, and loads them from there. All else that becomes of a set the proved answer says.
+ * The integer registers of the host of each hart, and of each enclave, which move with it from hart to hart: x1 to x31 and the pc.
+ * trap.S saves those of the running world in its set, and loads them from there. The proved answer defines all other changes of a set.
  */
 #include "board.h"
 
@@ -25,7 +25,7 @@ static inline void change(struct registers *set, const struct set_change *change
     } else if (change->kind == FIRST_ENTRY) {
         registers_begin(set, change->first, change->whose);
     } else {
-        memset(set, 0, sizeof *set); /* floats too: so each enclave begins with zeros there */
+        memset(set, 0, sizeof *set); /* including floats, so that each enclave starts with zeros */
     }
 }
 

@@ -1,12 +1,12 @@
 /*
- * What an enclave wrote into its pages is not left to the next boot. Whatever ends the board, or begins it anew, makes the private
- * pages of all enclaves zero first, and what the monitor keeps of its registers. A watchdog or a button asks nobody: then the next boot does
- * it, by a list of these pages that lies after the image, where no start clears it.
+ * Hides the contents of enclave pages from the next boot. Before the board stops or restarts, the private pages of all enclaves and their
+ * saved registers are zeroed. After an unmediated reset, such as by a watchdog or a button, the next boot zeroes the pages, using a list
+ * after the image that no start clears.
  */
 #include "board.h"
 
-/* The private pages of each enclave, by its number less 1. They are in the list if the check says so: a reset at any moment leaves the list
-   right. */
+/* The private pages of each enclave, by its number minus 1. An element is valid if its check matches, so a reset at any moment leaves the
+   list consistent. */
 struct private_range {
     uint64_t first, count, check;
 };
@@ -50,7 +50,7 @@ void private_end(uint64_t first, uint64_t count)
             private_ranges[i].check = 0;
 }
 
-/* A page that traps is tried once, and its range leaves the list with the others: so neither those after it nor the next boot suffer. */
+/* A page that traps is tried only once, and its range leaves the list like the others, so later pages and the next boot are unaffected. */
 void forget_private(void)
 {
     static volatile uint64_t tried; /* pages of the range */
@@ -66,8 +66,8 @@ void forget_private(void)
     }
 }
 
-/* A hart on which the monitor trapped has the lock, has a ticket that will be called, or draws one here. It waits here and does not sleep:
-   the code by which others do so may be what trapped. The hart that is called may sleep, if the monitor trapped before it was woken. */
+/* A hart on which the monitor trapped holds the lock, has a ticket that will be served, or draws one here. It spins instead of sleeping,
+   because the code for sleeping may be what trapped. The hart now served may be asleep, if the monitor trapped before waking it. */
 static void come_for_lock(struct world *self)
 {
     if ((int64_t)(self->ticket - __atomic_load_n(&tickets[1], __ATOMIC_ACQUIRE)) < 0)
@@ -78,7 +78,7 @@ static void come_for_lock(struct world *self)
         ;
 }
 
-/* Nothing writes meanwhile: the other harts stand still or wait for the lock. After a trap in here the hart goes on with what is next. */
+/* Nothing else writes meanwhile: the other harts are stopped or wait for the lock. After a trap in here the next step follows. */
 void forget(void)
 {
     static volatile uint8_t is_ending, has_no_registers;
@@ -96,7 +96,7 @@ void forget(void)
     }
 }
 
-/* Frames on the monitor's stack have words of enclaves' calls. Who is called next never returns, so nothing there is needed. */
+/* Frames on the monitor's stack contain words of enclaves' calls. The functions called next never return, so the stack is not needed. */
 static inline __attribute__((always_inline)) void forget_stack(void)
 {
     extern volatile uint64_t stack_start[], stack_end[];
@@ -113,7 +113,7 @@ _Noreturn void end_board(uint64_t status)
 
 _Noreturn void end_because(const char *why, int64_t number)
 {
-    forget(); /* the serial line may take its time */
+    forget(); /* first, because the serial line may be slow */
     put("monitor: ");
     put(why);
     put_number(number);

@@ -1,18 +1,18 @@
 /*
- * What the proved loop has of the board, in the shape of the C library: it reads frames from standard input and writes
- * frames to standard output. Reading the next trap lets the hart run; writing an answer loads it.
+ * The proved loop's interface to the board, in the form of the C library: it reads frames from standard input and writes
+ * frames to standard output. Reading the next trap runs the hart's world; writing an answer applies it.
  */
 #include "board.h"
 
-/* The list of the host, and of each enclave by its number the first words of one: a hart has no more entries. */
+/* The list of the host, and that of each enclave by number, without the words for entries that a hart lacks. */
 struct bank host_bank;
 static uint64_t enclave_banks[MOST_ENCLAVES + 1][9 + ENTRIES];
 
-/* A hart begins with the host's entries and with fences, and hart 0 alone with the lock. */
+/* A hart starts with the host's entries and with fences, and hart 0 also with the lock. */
 #define AT_START(hart) {.registers = &register_sets[hart], .is_stale = 1, .bank = &host_bank, .ticket = (hart) ? ~0ul : 0}
 struct world worlds[MOST_HARTS] = {AT_START(0), AT_START(1), AT_START(2), AT_START(3)};
 
-/* Of the pages that are asked for the next that is read. */
+/* The next requested page to read. */
 static uint64_t next_page;
 
 static int is_ram(uint64_t page)
@@ -23,7 +23,7 @@ static int is_ram(uint64_t page)
     return 0;
 }
 
-/* Whether machine mode may read or write a page for the monitor: it is memory, and not the monitor's. */
+/* Returns whether the monitor may read or write a page of a world: it is RAM outside the monitor's range. */
 static int is_worlds(uint64_t page)
 {
     return is_ram(page) && page - platform->monitor_base / PAGE >= platform->monitor_size / PAGE;
@@ -47,13 +47,13 @@ static __attribute__((noinline)) int64_t read_page(struct page_frame *frame)
     return sizeof *frame;
 }
 
-/* The loop's frames are bytes. They lie where words can be read and written (tools/retarget), or nothing is served. */
+/* The loop's frames are bytes. They must be aligned for access as words (tools/retarget), otherwise nothing is served. */
 static int is_aligned(const void *at)
 {
     return (uintptr_t)at % sizeof(uint64_t) == 0;
 }
 
-/* The loop reads whole frames, and nothing else is read: which one it waits for its length says. */
+/* The loop reads whole frames and nothing else: the length determines the kind of frame. */
 int64_t read(uint64_t descriptor, void *to, uint64_t n)
 {
     (void)descriptor;
@@ -84,8 +84,8 @@ void make_zero(uint64_t first, uint64_t count)
             memset((void *)(page * PAGE), 0, PAGE);
 }
 
-/* The harts that run the host are the one that goes on and those that are woken, which stand still while its list changes, and no
-   longer. An enclave whose list is new runs nowhere. */
+/* The harts that run the host are the one that continues and those to wake, which are stopped only while its list changes. An enclave
+   with a new list is not running. */
 static __attribute__((noinline)) void change_lists(const struct answer_frame *answer)
 {
     stop_harts(answer->wake);
@@ -95,11 +95,11 @@ static __attribute__((noinline)) void change_lists(const struct answer_frame *an
     for (unsigned hart = 0; hart < hart_count(); hart++)
         if ((answer->wake | 1ul << answer->hart) >> hart & 1)
             worlds[hart].is_stale = 1;
-    stop_harts(0); /* they go on */
+    stop_harts(0); /* they continue */
     answered(answer);
 }
 
-/* Another world goes on. What the hart has of the host's status is read before registers of floating point are opened. */
+/* Switches to another world. The host's status is read before the floating-point registers are enabled. */
 static inline void change_world(struct world *self, const struct answer_frame *answer)
 {
     uint64_t status = READ(mstatus);
@@ -117,14 +117,14 @@ static inline void change_world(struct world *self, const struct answer_frame *a
     }
 }
 
-/* An answer with which more changes than registers. No world reaches pages that are made zero: they were an enclave's, and are closed
-   to the host until its entries change. */
+/* Applies an answer that changes more than registers. No world can access the pages being zeroed: they were an enclave's, and the host
+   has no access until its entries change. */
 static __attribute__((noinline)) int64_t written_change(struct world *self, const struct answer_frame *answer, uint64_t n)
 {
     if (answer->list_count > 2 || n != sizeof *answer + answer->list_count * sizeof answer->lists[0] + 8 * answer->word_count)
         return -1;
     if (answer->world && answer->world != self->number && answer->word_count != 9)
-        return -1; /* it has no control words */
+        return -1; /* the control words are missing */
     if (answer->zero_count)
         private_end(answer->zero_first, answer->zero_count);
     if (answer->list_count)
@@ -134,7 +134,7 @@ static __attribute__((noinline)) int64_t written_change(struct world *self, cons
     return registers_change(n, answer);
 }
 
-/* An answer has made an enclave, whose number its hart finds in a1. Its pages are asked for while other harts run. */
+/* An answer has created an enclave, whose number is in a1 of its hart. Its pages are requested while other harts run. */
 static __attribute__((noinline)) int64_t written_measure(const struct measure_frame *asked)
 {
     next_page = asked->first;
@@ -142,7 +142,7 @@ static __attribute__((noinline)) int64_t written_measure(const struct measure_fr
     return sizeof *asked;
 }
 
-/* Most answers have the front alone, and leave the hart in its world. */
+/* Most answers have no lists, and leave the hart in its world. */
 int64_t write(uint64_t descriptor, const void *from, uint64_t n)
 {
     const struct answer_frame *answer = from;
@@ -160,13 +160,13 @@ int64_t write(uint64_t descriptor, const void *from, uint64_t n)
     return -1;
 }
 
-/* The error that standard input or output had: EIO. */
+/* The error number for standard input and output: EIO. */
 int rattle_errno(void)
 {
     return 5;
 }
 
-/* Where the monitor itself traps, nothing is left to go on with. */
+/* A trap of the monitor itself is fatal. */
 _Noreturn void trapped(uint64_t cause, uint64_t pc, uint64_t value)
 {
     forget();

@@ -1,6 +1,6 @@
 /*
- * Where each hart begins. Hart 0 marks the stack, so that its use can be seen, and boots the monitor; the others wait
- * until there is a host for them.
+ * The entry point of each hart. Hart 0 fills the stack with a mark, so that its use can be measured, and boots the monitor; the
+ * others wait until there is a host for them.
  */
     .equ    OF_EARLIER, 1 << 42 | 1 << 17 | 1 << 3 # of mstatus: MDT, MPRV, MIE
     .equ    NEEDED, 1 << 12 | 1 << 2 | 1 << 0 # of misa: M, C, A
@@ -16,7 +16,7 @@ _start:
     .option norvc
     li      s0, OF_EARLIER
     csrc    mstatus, s0
-/* Triggers of an earlier stage keep their type and do nothing. A hart without triggers traps. */
+/* Disables the triggers of an earlier stage, which keep their type. A hart without triggers traps. */
     la      t0, 2f
     csrw    mtvec, t0
     li      t0, 0
@@ -25,14 +25,14 @@ _start:
     bne     t0, t1, 2f
     csrr    t1, TDATA1
     srli    t1, t1, 60
-    beqz    t1, 2f              # there are no more
+    beqz    t1, 2f              # no further triggers
     slli    t1, t1, 60
     csrw    TDATA1, t1
     addi    t0, t0, 1
     j       1b
     .balign 4
 2:  csrc    mstatus, s0
-/* A hart without what the compiler takes for granted, if misa tells it: hart 0 says so and ends the board. */
+/* If misa shows that an extension is missing which the compiler assumes, hart 0 reports it and stops the board. */
     csrr    t0, misa
     li      t1, NEEDED
     and     t2, t0, t1
@@ -73,10 +73,10 @@ _start:
     addi    t0, t0, 8
     bltu    t0, sp, 1b
     call    boot                # boot(hart, device tree)
-    call    pmpmon_serve        # the proved loop: it returns only where nothing can be served
-    call    served              # served(what it told): it does not return
+    call    pmpmon_serve        # the proved loop: returns only if nothing can be served
+    call    served              # served(result): does not return
 
-/* harts_run is 0, then the number of harts that the platform has. */
+/* harts_run is 0 at first, then the number of the platform's harts. */
 other:
     li      t1, 4
     bgeu    t0, t1, .

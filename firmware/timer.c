@@ -1,6 +1,6 @@
 /*
- * The timer of each hart (the CLINT of QEMU's virt), and the host's. A hart that has stimecmp (Sstc) has a timer of supervisor
- * mode, which the host sets itself or by SBI. Otherwise machine mode's timer is used for it.
+ * The timer of each hart (the CLINT of QEMU's virt), and the host's. A hart with stimecmp (Sstc) has a supervisor-mode timer,
+ * which the host sets itself or by SBI. Otherwise the host uses machine mode's timer.
  */
 #include "board.h"
 
@@ -44,7 +44,7 @@ void host_timer_at(uint64_t time)
     CLEAR(mip, TIMER_OF_SUPERVISOR);
 }
 
-/* Machine mode's timer came: the host finds its own when it goes on. An interrupt that is older than the timer is dropped. */
+/* Machine mode's timer expired: makes the host's interrupt pending. An interrupt from before the timer was set is dropped. */
 void host_timer_came(void)
 {
     if (timer_now() < compare[this_hart()])

@@ -1,15 +1,15 @@
 /*
- * From the monitor into a world, and back by a trap.
+ * Enters a world from the monitor, and returns at a trap.
  *
- * The monitor is one thread of control with one stack. A hart that runs it has the lock, and lets go of it in run_world,
- * once its registers of protection are loaded. The hart whose world traps next, or the next to come by the lock, goes on
- * with the monitor where the last one left it: it returns from that call of run_world, with its own struct world. A trap that
- * changes nothing of the monitor's a hart serves alone, without the lock and on a stack of its own (serve_alone). mscratch has the
- * register set of the world that runs, whose first word has the hart's struct world, and zero while none runs: so a trap of the
- * monitor itself is told from a world's.
+ * The monitor is one thread of control with one stack. The hart that runs it holds the lock, and releases it in run_world, after
+ * its PMP registers are loaded. The hart whose world traps next, or the next one to get the lock, continues the monitor where the
+ * last one left it: it returns from that call of run_world, with its own struct world. A trap that does not change the monitor's
+ * state is served by the hart itself, without the lock and on its own stack (serve_alone). mscratch points to the register set of the
+ * running world, whose first word points to the hart's struct world, and is zero while no world runs, which distinguishes a trap of
+ * the monitor itself.
  */
     .equ    PC, 32 * 8          # of a register set
-    .equ    REGISTERS, 1792     # of a struct world: the end of the hart's own stack, and where the set of its world is
+    .equ    REGISTERS, 1792     # of a struct world: the end of the hart's own stack, and the pointer to its world's set
     .equ    CAUSE, REGISTERS + 8
     .equ    VALUE, REGISTERS + 16
     .equ    TICKET, REGISTERS + 24
@@ -21,7 +21,7 @@
     .equ    SAVED, 14 * 8
     .equ    CLINT, 0x2000000    # its first words: a software interrupt for each hart
 
-/* Registers x1 to x29, in the set that x31 points to. */
+/* Saves or loads x1 to x29 in the set at x31. */
     .macro  all what
     .irp    n, 1, 2, 3, 4, 5, 6, 7, 8, 9, 10, 11, 12, 13, 14, 15, 16, 17, 18, 19, 20, 21, 22, 23, 24, 25, 26, 27, 28, 29
     \what   x\n, 8 * \n(x31)
@@ -33,7 +33,7 @@
     \what   s\n, 8 + 8 * \n(sp)
     .endr
     .endm
-    .macro  forget_saved        # what C saves of these on the monitor's stacks would stay there
+    .macro  forget_saved        # C code would leave copies of these on the monitor's stacks
     .irp    n, 1, 2, 3, 4, 5, 6, 7, 8, 9, 10, 11
     li      s\n, 0
     .endr
@@ -46,8 +46,8 @@
     .endm
 
 /*
- * The monitor is left where it is, and the lock is let go of. Before it the hart is done with memory, and with what it said to the
- * CLINT, which a release alone does not order. The hart that is called next may sleep.
+ * Saves the state of the monitor and releases the lock. The fence before it also orders writes to the CLINT, which a release alone
+ * would not. The hart that is served next may be asleep.
  */
     .macro  leave_monitor
     addi    sp, sp, -SAVED
@@ -74,14 +74,14 @@ instructions:
     .globl  run_world
 run_world:
     leave_monitor
-/* From here on nothing of the monitor's is used but this hart's own: another hart may go on with it. */
+/* From here on only this hart's own state is used: another hart may be running the monitor. */
     mv      s0, a0
 enter_world:
     ld      x31, REGISTERS(s0)
     sd      s0, (x31)
     ld      t0, PC(x31)
     csrw    mepc, t0
-    sc.d    zero, zero, (s0)    # into the lowest word of the hart's stack, so that no reservation of another world is left
+    sc.d    zero, zero, (s0)    # to the lowest word of the hart's stack, which clears a reservation of another world
     all     ld
     ld      x30, 8 * 30(x31)
     csrw    mscratch, x31
@@ -89,8 +89,8 @@ enter_world:
     mret
 
 /*
- * Parked: the hart lets go of the monitor, and is halted until it is wanted. The word of the CLINT that wakes it is made zero
- * before it looks, so that no wish is missed.
+ * Parks: the hart releases the monitor, and is halted until another hart wakes it. It zeroes its word of the CLINT before each
+ * check, so that no request is missed.
  */
     .globl  park
 park:
@@ -108,13 +108,13 @@ park:
 2:  sw      zero, IS_WANTED(a0)
     j       take_monitor
 
-/* A hart that has run no world yet comes in as one that was parked. */
+/* A hart that has not run a world yet enters like one that was parked. */
     .weak   enter_as_trapped
 enter_as_trapped:
     own_world a0
     j       take_monitor
 
-/* From the fifth instruction on a trap finds that the monitor itself trapped. */
+/* From the fifth instruction on, a trap counts as one of the monitor itself. */
     .balign 4
     .globl  trap
 trap:
@@ -132,10 +132,10 @@ trap:
     csrr    t0, mtval
     sd      t0, VALUE(s0)
     csrr    t0, mstatus
-    slli    t0, t0, 63 - 12     # of machine mode (MPP 3) no world is: the monitor trapped as it entered one
+    slli    t0, t0, 63 - 12     # no world is in machine mode (MPP 3): the monitor trapped while entering one
     bltz    t0, died
     slli    t0, t0, 1
-    bltz    t0, 1f              # supervisor mode
+    bltz    t0, 1f              # from supervisor mode
     forget_saved                # an enclave's
 1:  addi    sp, s0, REGISTERS
     mv      a0, s0
@@ -143,8 +143,8 @@ trap:
     bnez    a0, enter_world
     mv      a0, s0
 /*
- * A ticket lock: a hart draws the next ticket, and goes in when it is called, so harts go in in the order in which they came. A hart has
- * the lock while its last ticket is the one that is called. a0 is the hart's struct world.
+ * A ticket lock: a hart draws the next ticket, and enters when it is served, so harts enter in order of arrival. A hart holds the lock
+ * while its last ticket is the one now served. a0 is the hart's struct world.
  */
 take_monitor:
     fence   rw, rw
@@ -163,7 +163,7 @@ drawn:
     addi    sp, sp, SAVED
     ret
 
-/* The monitor itself trapped, and may again. If it was about to keep the ticket that it had drawn, it does so here: others wait for it. */
+/* The monitor itself trapped, and may trap again. If it had drawn a ticket but not yet stored it, this stores it: others wait for it. */
     .balign 4
 died:
     la      t0, died
@@ -178,11 +178,11 @@ died:
     csrr    a0, mcause
     csrr    a1, mepc
     csrr    a2, mtval
-    call    trapped             # it does not return
+    call    trapped             # does not return
 
 /*
- * Who has waited for some microseconds sleeps until it is called, and says so: another hart may need its core. It makes its word of
- * the CLINT zero before it looks.
+ * After spinning for some microseconds a waiter sets its sleep flag and sleeps until it is served, because another hart may need its
+ * core. It zeroes its word of the CLINT before each check.
  */
 wait_for_call:
     li      t5, 1000
@@ -192,7 +192,7 @@ wait_for_call:
     bgtz    t5, 1b
     csrr    t5, mie
     li      t4, 1 << 3
-    csrw    mie, t4             # its software interrupt alone wakes it
+    csrw    mie, t4             # only its software interrupt wakes it
     csrr    t4, mhartid
     andi    t2, t1, 3
     add     t2, t2, t0
@@ -211,7 +211,7 @@ wait_for_call:
     csrw    mie, t5
 4:  jr      t6
 
-/* The hart that is called, by the number in t1, sleeps where its place says so. */
+/* Wakes the hart whose ticket, in t1, is served next, if its sleep flag is set. */
 wake_called:
     andi    t1, t1, 3
     add     t1, t1, t0
@@ -227,7 +227,7 @@ wake_called:
     .section .sdata, "aw"
     .balign 8
     .globl  tickets
-/* Hart 0 has the monitor first, with ticket 0: the next ticket, the one that is called, four bytes for the harts that sleep, each
-   plus 1 and at the last two bits of its ticket, and where the monitor's stack is. */
+/* Hart 0 holds the monitor first, with ticket 0. The words are the next ticket, the one now served, four sleep flags, each the number of
+   a sleeping hart plus 1 at the index given by the last two bits of its ticket, and the monitor's stack pointer. */
 tickets:
     .dword  1, 0, 0, 0

@@ -1,18 +1,18 @@
 /*
- * A trap, and who has it: the proved core decides, and here it is done. What changes nothing that another hart reads but by its
- * requests is served by the hart alone, and the rest with the monitor's lock, under which it is decided anew.
+ * Serves traps: the proved core decides on an action, and this file performs it. Actions whose only effect on other harts is by
+ * requests are performed by the hart itself; the others need the monitor's lock, and are decided again with it.
  */
 #include "board.h"
 
-/* crates/pmpmon_monitor: it writes no other word than those of harts and action. `call` is a0 to a7. */
+/* crates/pmpmon_monitor: writes only `harts` and `action`. `call` is a0 to a7. */
 void pmpmon_decide(uint64_t world, uint64_t cause, const uint64_t *call, const struct caller *caller, const uint64_t *bank,
                    struct harts *harts, struct action *action);
 
-/* Where the host begins on hart 0, as OpenSBI's fw_jump has it: a0 is the hart, a1 the device tree. Others wait for its call. */
+/* The host's entry point on hart 0, as for OpenSBI's fw_jump: a0 is the hart, a1 the device tree. Other harts wait for its call. */
 #define HOST_ENTRY 0x80200000ul
 static uint64_t device_tree;
 
-/* A hart that comes for the first time has its registers set. */
+/* Initializes the registers of a hart that enters for the first time. */
 static void begin(struct world *world)
 {
     static uint8_t has_begun[MOST_HARTS];
@@ -35,14 +35,14 @@ static __attribute__((noinline)) void interrupt_harts(uint64_t set)
             interrupt_supervisor(hart);
 }
 
-/* A hart that does not fence in ten seconds is an error of the call. */
+/* The call fails if a hart does not fence within ten seconds. */
 static void fence(struct action *action, uint32_t kind)
 {
     if (!fence_harts(action->subject, kind))
         action->error = SBI_ERR_FAILED;
 }
 
-/* What was decided of a trap of the host is done. A call of it is answered: a0 is the error, a1 the value, and it goes on after it. */
+/* Performs the action for a trap of the host. A call returns the error in a0 and the value in a1, and the host continues after it. */
 static inline void act(struct world *world)
 {
     struct action *action = &world->action;
@@ -77,7 +77,7 @@ static inline void act(struct world *world)
     world->registers->pc += 4;
 }
 
-/* It waits in park. The host's list may change meanwhile, and is loaded before it starts. */
+/* Starts a hart that waits in park. The host's list may have changed meanwhile, so it is loaded first. */
 static void start_hart(const struct action *action)
 {
     struct world *world = &worlds[action->subject];
@@ -113,7 +113,7 @@ static void decide(struct world *world, struct harts *states)
     pmpmon_decide(world->number, world->cause, world->registers->x + 10, &world->caller, host_bank.cfg, states, &world->action);
 }
 
-/* Another hart may start or stop one meanwhile, so the states are a copy, and what changes them is decided again with the lock. */
+/* Another hart may start or stop one meanwhile, so the states are a copy, and actions that change them are decided again with the lock. */
 int serve_alone(struct world *world)
 {
     struct harts seen = seen_harts();
@@ -127,7 +127,7 @@ int serve_alone(struct world *world)
     return 0;
 }
 
-/* The stack has grown into its last 8 KiB. What lies below it is the monitor's memory. */
+/* Checks that the stack has not grown into its last 8 KiB. Other memory of the monitor is below it. */
 static void check_stack(void)
 {
     extern const uint64_t stack_guard;
@@ -141,8 +141,8 @@ static inline struct world *run(struct world *world)
     return run_world(world);
 }
 
-/* Does what the monitor has not to know of. A hart that is not started was parked, with no decision that holds, or comes for the
-   first time: no interrupt is left from before it starts. */
+/* Performs actions that do not concern the monitor. A hart that is not started was parked, so its last decision is obsolete, or enters
+   for the first time: pending requests are cleared before it starts. */
 static __attribute__((noinline)) struct world *serve_with_lock(struct world *world)
 {
     if (!is_started(this_hart())) {
@@ -157,8 +157,8 @@ static __attribute__((noinline)) struct world *serve_with_lock(struct world *wor
     return is_started(this_hart()) ? run(world) : park(world);
 }
 
-/* What a host learns beside the cause: the address of an access outside the private pages of the enclave. A fault within them would tell an
-   address of its own, and an illegal instruction its own code. */
+/* Returns what a host learns besides the cause: the address of an access outside the private pages of the enclave. A fault inside them
+   would reveal one of the enclave's addresses, and an illegal instruction its code. */
 enum { FETCH_FAULT = 1, LOAD_FAULT = 5, STORE_FAULT = 7 };
 static uint64_t stop_value(const struct world *world)
 {
@@ -167,7 +167,7 @@ static uint64_t stop_value(const struct world *world)
     return is_access && !is_private_page(world->number, world->value / PAGE) ? world->value : 0;
 }
 
-/* What a trap was decided to be holds with the lock too where it is the monitor's: that asks for no states of harts. */
+/* A decision that a trap concerns the monitor stays valid with the lock, because it does not depend on the states of harts. */
 int64_t next_trap(struct trap_frame *frame)
 {
     struct world *world;
@@ -192,6 +192,7 @@ void answered(const struct answer_frame *answer)
     begin(host);
     registers_begin(host->registers, HOST_ENTRY, answer->hart);
     host->registers->x[11] = device_tree;
+    tell_start(HOST_ENTRY);
     start_others();
 }
 

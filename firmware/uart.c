@@ -1,4 +1,4 @@
-/* The serial port (a 16550) and the end of QEMU's virt board. */
+/* The serial port (a 16550), and power control of QEMU's virt board. */
 #include "board.h"
 
 static volatile uint8_t *const serial = (volatile uint8_t *)0x10000000;
@@ -6,7 +6,7 @@ static volatile uint32_t *const finisher = (volatile uint32_t *)0x100000;
 
 #define TENTH_OF_A_SECOND 1000000ul
 
-/* A byte that the line does not take in that time is dropped: nobody waits for a line without an end. */
+/* Drops a byte that the serial line does not accept within that time, so that a dead line blocks no hart. */
 void put_char(char c)
 {
     uint64_t last = READ(time) + TENTH_OF_A_SECOND;
@@ -43,7 +43,7 @@ void put_number(int64_t number)
     put_digits(number < 0 ? 0 - (uint64_t)number : (uint64_t)number);
 }
 
-/* The board ends: well with 0, and otherwise so that QEMU's status is 1. */
+/* Powers the board off: with success for 0, otherwise with QEMU's exit status 1. */
 _Noreturn void power_off(uint64_t status)
 {
     *finisher = status ? 0x13333 : 0x5555;
@@ -51,7 +51,7 @@ _Noreturn void power_off(uint64_t status)
         ;
 }
 
-/* The board begins anew, and the monitor with it. */
+/* Resets the board, and the monitor with it. */
 _Noreturn void start_again(void)
 {
     *finisher = 0x7777;

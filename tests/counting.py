@@ -1,21 +1,21 @@
-"""Counts what passed and what failed, a line for each, and ends with the line that ./test reads: 'N passed, M failed'."""
+"""Counts passed and failed checks, prints a line for each, and ends with the line that ./test reads: 'N passed, M failed'."""
 import re
 
 
 class Count:
-    """What passed and what failed so far."""
+    """The numbers of passed and failed checks so far."""
 
     def __init__(self):
         self.passed = self.failed = 0
 
     def note(self, good, what, told=""):
-        """A row: whether it is as it should be, what it is, and what is said of it where it is not."""
+        """Counts a check, with its name, and an explanation that is printed if it failed."""
         self.passed += bool(good)
         self.failed += not good
         print(f"ok: {what}" if good else f"FAILED: {what}{told and ': '}{told}")
 
     def told(self, what, right, why=""):
-        """The same, at once, with what is said of it in each case."""
+        """Counts a check and prints it immediately, with an explanation in either case."""
         self.passed += bool(right)
         self.failed += not right
         print(f"{'ok' if right else 'FAILED'}: {what}{f': {why}' if why else ''}", flush=True)
@@ -27,6 +27,6 @@ class Count:
 
 
 def matches(want, got):
-    """Whether lines are those wanted, where `...` stands for any."""
+    """Returns whether lines match the expected ones, where `...` matches any lines."""
     pattern = "".join("(?:.*\n)*" if it == "..." else re.escape(it) + "\n" for it in want)
     return re.fullmatch(pattern, "".join(f"{it}\n" for it in got))

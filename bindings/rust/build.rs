@@ -1,4 +1,4 @@
-//! Finds `libpmpmon.a`: in the directory that `PMPMON_LIB_DIR` names, or else where `pkg-config` says.
+//! Finds `libpmpmon.a`: in the directory `PMPMON_LIB_DIR`, otherwise with `pkg-config`.
 
 use std::env;
 use std::process::{exit, Command};

@@ -6,7 +6,7 @@
                                                     is proved, is asked for the same digest
 
 A file that is no enclave, as enclave.ld makes one, is refused. It is SHA-256 over four 64-bit numbers, the lowest byte first: text pages, data pages, shared pages and the entry offset; then the
-bytes of text and data in whole pages (docs/FORMATS.md, "Calls of the monitor").
+bytes of text and data in whole pages (docs/formats/calls.md, "Calls of the monitor").
 """
 import hashlib
 import struct

@@ -1,6 +1,6 @@
 /*
- * The enclave: a page of code, and after it a page of data. It keeps a number there, stops itself, is stopped by the timer
- * while it counts, and exits with the number and 1. Its second entry loads what is not its own.
+ * The enclave: a page of code, followed by a page of data. It stores a number there, stops itself, is interrupted by the timer
+ * while it counts, and exits with the number plus 1. Its second entry loads from memory of the monitor.
  */
     .equ    EXTENSION, 0x08454E43
     .equ    STOP, 3

@@ -1,6 +1,6 @@
 /*
- * A host for the monitor: it makes an enclave, is refused its pages, runs it, has the timer while it runs, destroys it and
- * finds zeros; then one that does what it may not.
+ * A host for the monitor: it creates an enclave, is denied access to its pages, runs it, gets a timer interrupt meanwhile, destroys
+ * it and finds zeros; then it runs an enclave that makes a forbidden access.
  */
 #include "board.h"
 #include "pmpmon_calls.h"
@@ -8,7 +8,7 @@
 #define BASE 0x85000000ul
 #define TIME 0x54494d45ul
 #define RESET 0x53525354ul
-#define TICKS 1000000ul /* 100 ms: a busy machine comes to the enclave before */
+#define TICKS 1000000ul /* 100 ms: long enough to enter the enclave on a busy machine */
 
 long load_at(const uint64_t *at, uint64_t *value);
 extern const uint8_t enclave[], enclave_end[], enclave_second[];

@@ -1,4 +1,4 @@
-/* Where the firmware enters a host. */
+/* A host at the address at which the firmware enters it. */
 ENTRY(host_entry)
 SECTIONS
 {

@@ -1,5 +1,5 @@
 /*
- * A host in supervisor mode: hart 0 runs host.c, any other waits. A load that may fault has a handler of its own.
+ * A host in supervisor mode: hart 0 runs host.c, any other hart waits. A handler catches faults of loads.
  */
     .section .text.start, "ax"
     .globl  host_entry
@@ -14,8 +14,8 @@ idle:
     j       idle
 
 /*
- * long load_at(const uint64_t *at, uint64_t *value): the cause of the fault, or 0 and what was loaded. A fault goes on
- * after the load, with its cause in a0.
+ * long load_at(const uint64_t *at, uint64_t *value): returns the cause of a fault, or 0 with the loaded value. After a fault
+ * execution continues after the load, with the cause in a0.
  */
     .globl  load_at
 load_at:
@@ -28,7 +28,7 @@ load_at:
     sd      t0, (a1)
     ret
 
-/* An interrupt is the timer's: it is turned off and noted. Any other trap is the fault of a load. */
+/* Any interrupt is from the timer, which is turned off and recorded. Any other trap is a fault of a load. */
     .balign 4
 handler:
     csrrw   t2, sscratch, t2

@@ -1,5 +1,5 @@
 /*
- * Instead of traps.c: the worlds do what a trace says, and each event has its line, as `pmpmon run` writes it.
+ * Replaces traps.c: the worlds perform the events of a trace, and each event has its line, in the format of `pmpmon run`.
  */
 #include "trace.h"
 #include "heap.h"
@@ -8,7 +8,7 @@ const struct platform_frame *platform = (const struct platform_frame *)PLATFORM_
 static const struct trace *trace = (const struct trace *)TRACE_AT;
 static const struct event *now;
 static uint64_t number, asked[3];
-/* The most instructions of the monitor between a trap and its answer: of a call that makes or ends an enclave, and of another. */
+/* The maximum number of instructions from a trap to its answer: for a call that creates or destroys an enclave, and for others. */
 static uint64_t since, most_owning, most_other;
 extern const uint64_t stack_start[], stack_end[];
 
@@ -19,7 +19,7 @@ static void begin(void)
         return;
     has_begun[this_hart()] = 1;
     control_at_start();
-    /* Whatever the host does is looked at here. */
+    /* All traps of the host are handled here. */
     WRITE(medeleg, 0);
     WRITE(mideleg, 0);
 }
@@ -52,7 +52,7 @@ static void set_words(struct world *world)
         world->registers->x[order[i]] = now->words[i];
 }
 
-/* Does an event that the monitor has not to know of. */
+/* Performs an event that does not concern the monitor, if it is one. */
 static int is_done(void)
 {
     struct world *world = &worlds[this_hart()];
@@ -151,14 +151,14 @@ void answered(const struct answer_frame *answer)
     start_others();
 }
 
-/* The line of an event, of what its answer says. */
+/* Prints the line of an event, given its answer. */
 static void tell(const struct answer_frame *answer)
 {
     uint64_t took = instructions() - since, *most = asked[0] < 2 ? &most_owning : &most_other;
     *most = took > *most ? took : *most;
     put_front();
     if (now->kind == ECALL) {
-        /* A creation and a destruction leave the host on the hart, and nothing else does so and has these functions. */
+        /* Only a creation or a destruction leaves the host on the hart and has one of these functions. */
         note_enclave(answer);
         put(" call ");
         put_number((int64_t)answer->status);
@@ -174,7 +174,7 @@ static void tell(const struct answer_frame *answer)
     put("\n");
 }
 
-/* The linker has the loop write here: the answer to each event has a line. */
+/* The linker redirects the loop's writes here, so that each answer prints its line. */
 int64_t __real_write(uint64_t descriptor, const void *from, uint64_t n);
 int64_t __wrap_write(uint64_t descriptor, const void *from, uint64_t n)
 {
@@ -194,7 +194,7 @@ _Noreturn void ended(const struct end_frame *end)
     power_off(1);
 }
 
-/* The board leaves a device tree in memory, which the worlds of a trace find zero. */
+/* Zeroes the device tree that the board leaves in memory, because the worlds of a trace expect zeros. */
 static void forget_tree(uint64_t at)
 {
     const uint8_t *size = (const uint8_t *)at + 4;

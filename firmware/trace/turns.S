@@ -1,5 +1,5 @@
 /*
- * The harts take turns: one has the monitor until it passes it on, and waits until it gets it back.
+ * The harts take turns: one holds the monitor until it passes it on, and waits until it gets it back.
  */
     .equ    SAVED, 14 * 8
     .macro  callee_saved what

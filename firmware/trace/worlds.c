@@ -1,6 +1,6 @@
 /*
- * What a trace says, done by the world that runs on the hart: its own mode, its registers, its entries, and an instruction
- * that is put into memory which it may execute, as a debugger does, and taken out again.
+ * Performs the events of a trace in the world that runs on the hart: with its own mode, registers and entries, and an instruction
+ * that is written temporarily to memory which the world may execute, as a debugger does.
  */
 #include "trace.h"
 
@@ -8,7 +8,7 @@
 #define EBREAK_SHORT 0x9002u
 #define ECALL_WORD 0x00000073u
 #define JUMP_TO_SELF 0x0000006fu
-#define VALUE 30 /* the registers of a load or store that is done for a trace */
+#define VALUE 30 /* the registers of a load or store for a trace */
 #define ADDRESS 31
 #define CAUSE_BREAKPOINT 3
 #define SUPERVISOR (1ul << 11)
@@ -61,7 +61,7 @@ static int is_in_ram(uint64_t address, uint64_t size)
     return 0;
 }
 
-/* The last page of memory that is the host's alone. */
+/* Returns the last page of memory that belongs only to the host. */
 static uint64_t page_of_host(void)
 {
     for (uint64_t i = platform->ram_count; i-- > 0;)
@@ -71,7 +71,7 @@ static uint64_t page_of_host(void)
     wrong("the host has no page to execute from", 0);
 }
 
-/* A place for two instructions that the world on this hart may execute, apart from what it accesses. */
+/* Returns a place for two instructions that the world on this hart may execute, apart from the bytes that it accesses. */
 static uint64_t place_apart(uint64_t address, uint64_t size)
 {
     uint64_t id = worlds[this_hart()].number, place = id ? enclaves[id].base : page_of_host();
@@ -80,7 +80,7 @@ static uint64_t place_apart(uint64_t address, uint64_t size)
     return place;
 }
 
-/* The world of this hart executes at a place in some mode, with these registers in place of its own, until it traps: for which cause. */
+/* Executes the world of this hart at a place in some mode, with these registers instead of its own, until a trap. Returns the cause. */
 static uint64_t execute(struct registers *registers, uint64_t place, uint64_t mode)
 {
     struct world *self = &worlds[this_hart()];
@@ -89,7 +89,7 @@ static uint64_t execute(struct registers *registers, uint64_t place, uint64_t mo
     registers->pc = place;
     self->registers = registers;
     WRITE(mstatus, (status & ~MODE) | mode);
-    self->is_stale = 1; /* what it executes was written just now */
+    self->is_stale = 1; /* its instructions were just written */
     load_changes(self);
     run_world(self);
     WRITE(mstatus, status);
@@ -97,14 +97,14 @@ static uint64_t execute(struct registers *registers, uint64_t place, uint64_t mo
     return self->cause;
 }
 
-/* A trace's traps are all looked at. */
+/* No trap of a trace is served by a hart alone. */
 int serve_alone(struct world *world)
 {
     (void)world;
     return 0;
 }
 
-/* Every register that the instruction does not name is as it was handed out. */
+/* Checks that every register not named by the instruction is unchanged. */
 static void same_registers(const struct registers *registers, int all)
 {
     for (unsigned n = 1; n < 32; n++)
@@ -143,7 +143,7 @@ static int64_t load_or_store(const struct event *event, uint64_t *loaded)
     return (int64_t)cause;
 }
 
-/* A fetch: in memory that is not the monitor's it meets a breakpoint, and elsewhere what is there. */
+/* Fetches an instruction: a breakpoint in memory outside the monitor's range, and the existing bytes elsewhere. */
 static int64_t fetch(const struct event *event)
 {
     uint64_t address = event->address;
@@ -169,7 +169,7 @@ static int64_t fetch(const struct event *event)
     return (int64_t)cause;
 }
 
-/* A hart may do an access that is off a multiple of its size; the model says that it is misaligned, before all else. */
+/* A hart may support misaligned accesses; in the model misalignment is a fault that precedes all others. */
 int64_t do_access(const struct event *event, uint64_t *loaded)
 {
     static const int64_t misaligned[] = {0, 4, 6};
@@ -178,7 +178,7 @@ int64_t do_access(const struct event *event, uint64_t *loaded)
     return event->kind == FETCH ? fetch(event) : load_or_store(event, loaded);
 }
 
-/* One instruction of the world in its own mode, with its registers as they are. */
+/* Executes one instruction of the world in its own mode, with its registers unchanged. */
 static uint64_t one_instruction(uint32_t instruction)
 {
     uint64_t place = place_apart(0, 0);

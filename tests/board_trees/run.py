@@ -1,19 +1,19 @@
 #!/usr/bin/env python3
-"""The map and the platform of device trees, as the program prints them: of QEMU's boards, of trees written here, and of trees
-that were changed or cut.
+"""Checks the maps and platforms that the program makes from device trees: of QEMU's boards, of trees written for this test, and of
+trees that were mutated or truncated.
 
   tests/board_trees/run.py PROGRAM
 
-Trees written here have each case in which a tree does not say what a map wants to know; what has to come of them is written beside
-them, as docs/DECISIONS.md says under "Platforms and device trees". In trees with buses inside one another, by a fixed seed, each
-kilobyte is translated here, bus by bus. Of QEMU's trees the registers of each node are asked of fdtget, and rounded here. Of one tree
-of each board 5,000 copies, or COPIES, with up to four bytes changed are read by both commands, each of which prints a text that reads
-back, or a reason. What is printed is taken as it is: a map by plan, a platform by lint and by run with the trace of an example. It
-wants dtc and fdtget, and for the boards QEMU; on Debian:
+The trees written for this test (trees.py) cover each case in which a tree lacks information that a map needs, and state the expected
+output; see docs/DECISIONS.md, "Platforms and device trees". For random nested buses, with a fixed seed, this script translates every
+kilobyte bus by bus. For QEMU's trees it asks fdtget for the registers of each node and rounds them itself. Both commands read 5,000
+copies, or COPIES, of one tree per board with up to four bytes mutated, and must print a text that parses again, or a reason. The
+printed texts are used unchanged: maps by plan, platforms by lint and by run with the trace of an example. The test requires dtc and
+fdtget, and QEMU for the boards; on Debian:
 
   apt-get install --no-install-recommends qemu-system-misc device-tree-compiler
 
-Where one of them is missing it says so. The last line that is printed is 'N passed, M failed'.
+It reports which of them is missing. The last line printed is 'N passed, M failed'.
 """
 import os
 import random
@@ -39,7 +39,7 @@ COPIES = int(os.environ.get("COPIES", "5000"))
 
 
 def pmpmon(*words, given=None):
-    """What the program does: its status, what it prints, and what it says."""
+    """Runs the program and returns its status, its output and its messages."""
     done = subprocess.run([sys.argv[1], *words], input=given, capture_output=True, timeout=60)
     return done.returncode, done.stdout.decode(), done.stderr.decode()
 
@@ -53,20 +53,20 @@ def platform_of(tree, monitor):
 
 
 def compiled(source, folder):
-    """The tree of a source, by dtc."""
+    """Compiles a source with dtc."""
     (folder / "tree.dts").write_text(source)
     subprocess.run(["dtc", "-q", "-I", "dts", "-O", "dtb", "-o", folder / "tree.dtb", folder / "tree.dts"], check=True)
     return folder / "tree.dtb"
 
 
 def reason(tree, said):
-    """Why there is no text, which is said after the name of the tree."""
+    """Returns the reason after the name of the tree in a message, if it is one."""
     before = f"pmpmon: {tree}: "
     return said[len(before):-1] if said.startswith(before) and said.endswith("\n") else None
 
 
 def written(count, folder):
-    """Trees written here: lines that have to come, in their order, with nothing of the same kind beside them."""
+    """Checks the trees of trees.py: the expected lines, in their order, and no others of the same kind."""
     for name, (source, given, wanted) in TREES.items():
         tree = compiled(source, folder)
         is_platform = wanted[0].startswith("harts") or not wanted[0].startswith(("0x", "#"))
@@ -81,12 +81,12 @@ CELLS = "#address-cells = <1>; #size-cells = <1>;"
 
 
 def windows_of_bus(made):
-    """Up to three windows of a bus, in units: addresses of the bus, those of its parent, and a size."""
+    """Makes up to three windows of a bus, in units: an address on the bus, one on its parent, and a size."""
     return [(made.randrange(24), made.randrange(24), made.randrange(1, 12)) for _ in range(made.randrange(1, 4))]
 
 
 def at_parent(windows, unit):
-    """Where the parent of a bus has a unit of it: by the first window that has it."""
+    """Translates a unit of a bus to its parent, by the first window that contains it."""
     for child, parent, size in windows:
         if child <= unit < child + size:
             return parent + unit - child
@@ -94,14 +94,14 @@ def at_parent(windows, unit):
 
 
 def at_root(buses, unit):
-    """Where the root has a unit, bus by bus from the innermost on."""
+    """Translates a unit to the root, bus by bus from the innermost on."""
     for windows in buses:
         unit = None if unit is None else at_parent(windows, unit)
     return unit
 
 
 def nested(made):
-    """Buses inside one another with devices on each: the source, and each device with the buses around it."""
+    """Makes nested buses with devices on each: the source, and each device with its buses."""
     devices, body = [], ""
     buses = [windows_of_bus(made) for _ in range(made.randrange(1, 4))]
     for depth in range(len(buses), 0, -1):
@@ -117,7 +117,7 @@ def nested(made):
 
 
 def runs_of(units):
-    """Sorted units as a base and a size in bytes each."""
+    """Groups units into sorted runs: a base and a size in bytes each."""
     runs = []
     for unit in sorted(units):
         if runs and runs[-1][1] == unit:
@@ -128,7 +128,7 @@ def runs_of(units):
 
 
 def buses(count, folder):
-    """Random buses inside one another: the pages of the map, and what no bus translates, unit by unit."""
+    """Checks random nested buses: the pages of the map, and the untranslatable registers, unit by unit."""
     wrong = []
     for seed in range(300):
         source, devices = nested(random.Random(f"buses {seed}"))
@@ -148,7 +148,7 @@ def buses(count, folder):
 
 
 def numbers(tree, node, name):
-    """The words of a property, by fdtget; none where the node has none."""
+    """Returns the words of a property, by fdtget, or no words if the node lacks it."""
     done = subprocess.run(["fdtget", "-t", "x", tree, node, name], capture_output=True, text=True)
     return [int(word, 16) for word in done.stdout.split()] if done.returncode == 0 else []
 
@@ -159,7 +159,7 @@ def nodes(tree, node):
 
 
 def joined(pages):
-    """Sorted pages as ranges."""
+    """Groups pages into sorted ranges."""
     found = []
     for page in sorted(pages):
         if found and found[-1][1] == page:
@@ -170,7 +170,7 @@ def joined(pages):
 
 
 def expected(tree):
-    """The ranges of devices on a board of QEMU, whose root and bus have two cells for an address and for a size."""
+    """Returns the expected ranges of devices on a QEMU board whose root and bus have two address cells and two size cells."""
     pages = set()
     for node in nodes(tree, "/") + nodes(tree, "/soc"):
         if re.match(r"/(memory|cpus|soc/clint)", node):
@@ -183,7 +183,7 @@ def expected(tree):
 
 
 def board(count, machine, harts, folder):
-    """One board of QEMU: what its texts have, against its tree."""
+    """Checks the texts of one QEMU board against its tree."""
     tree = folder / f"{machine}.dtb"
     command = ["qemu-system-riscv64", "-machine", f"{machine},dumpdtb={tree}", "-smp", str(harts), "-display", "none"]
     subprocess.run(command, check=True, capture_output=True)
@@ -201,7 +201,7 @@ def board(count, machine, harts, folder):
 
 
 def taken(count, machine, tree, folder):
-    """The texts of a board, as they are printed: the map by plan, the platform by lint and by run."""
+    """Checks that the printed texts of a board are accepted: the map by plan, the platform by lint and run."""
     text = map_of(tree)[1]
     status, out, said = pmpmon("plan", "-", given=text.encode())
     count.note(status == 0 and re.match(r"entries \d+\n", out), f"{machine}: plan takes the map", out + said)
@@ -216,7 +216,7 @@ def taken(count, machine, tree, folder):
 
 
 def came_of(done):
-    """What came of a command: a text, a reason at a byte, or what should not come."""
+    """Classifies the result of a command: a text, a reason, or an unexpected result."""
     status, text, said = done
     if status == 0 and text and not said:
         return "text"
@@ -225,7 +225,7 @@ def came_of(done):
 
 
 def changed(count, machine, whole, folder):
-    """Copies of a tree, of each of which up to four bytes are others; where the first four are, it may be no tree."""
+    """Checks copies of a tree with up to four bytes mutated. The magic number stays intact."""
     random.seed(2026)
 
     def one(number):
@@ -248,7 +248,7 @@ def changed(count, machine, whole, folder):
 
 
 def boards(count, folder):
-    """QEMU's boards with one to five harts, their texts, and changed copies of the tree of one."""
+    """Checks QEMU's boards with one to five harts, their texts, and mutated copies of one tree per board."""
     for machine in ("virt", "sifive_u"):
         for harts in range(1 + (machine == "sifive_u"), 6):
             tree = board(count, machine, harts, folder)
@@ -258,7 +258,7 @@ def boards(count, folder):
 
 
 def spoilt(count, folder):
-    """Trees that are cut at each byte, and one that is too deep."""
+    """Checks truncations of a tree at each byte, and a tree that is nested too deeply."""
     whole = compiled(list(TREES.values())[-1][0], folder).read_bytes()
     cut, wrong = folder / "cut.dtb", []
     for size in range(len(whole)):
@@ -274,6 +274,29 @@ def spoilt(count, folder):
         count.note(deep == wanted, f"{levels} nodes inside one another below the root")
 
 
+def seconds(work):
+    """Returns the processor seconds that some work takes, here and in programs that it runs."""
+    before = os.times()
+    work()
+    return sum(os.times()[:4]) - sum(before[:4])
+
+
+def idle(steps):
+    for _ in range(steps):
+        pass
+
+
+def long(count, folder):
+    """Tests a device with 120,000 ranges in 4,000 pages, whose map may take as long as two loops of Python with 10^8 steps."""
+    rows = " ".join(f"{i % 4000 * 8192:#x} 0x1000" for i in range(120_000))
+    tree = compiled(f"/dts-v1/; / {{ #address-cells = <1>; #size-cells = <1>; d@0 {{ reg = <{rows}>; }}; }};", folder)
+    made = []
+    took = seconds(lambda: made.append(map_of(tree)))
+    loop = seconds(lambda: idle(10**8))
+    status, text, _ = made[0]
+    count.note(status == 0 and text.count("\n0x") == 4000 and took < 2 * loop, "a device with 120,000 ranges", f"{took} of {loop} seconds, status {status}")
+
+
 def main():
     count = Count()
     missing = [it for it in ("dtc", "fdtget") if not shutil.which(it)]
@@ -284,6 +307,7 @@ def main():
         folder = Path(temporary)
         written(count, folder)
         buses(count, folder)
+        long(count, folder)
         spoilt(count, folder)
         if shutil.which("qemu-system-riscv64"):
             boards(count, folder)

@@ -1,5 +1,5 @@
-"""Trees written for the test, each with what the program is given, and the lines that have to come: of the map, or of the
-platform where they begin with `harts`, or why there is no platform."""
+"""Device trees for the test, each with the program's arguments and the expected lines: of the map, of the platform if they begin with
+`harts`, or the reason why there is no platform."""
 import re
 
 RAM = "memory@80000000 { device_type = \"memory\"; reg = <0 0x80000000 0 0x8000000>; };"
@@ -9,7 +9,7 @@ MACHINE = "; it is the timer of harts or interrupts them"
 
 
 def tree(body, harts=1, before="", ram=RAM):
-    """A tree of so many harts, with memory, and nodes below its root."""
+    """Returns a tree with this many harts, memory, and nodes below its root."""
     cpus = " ".join(f"cpu@{n} {{ device_type = \"cpu\"; reg = <{n}>; }};" for n in range(harts))
     return (f"/dts-v1/;\n{before}\n/ {{ #address-cells = <2>; #size-cells = <2>;\n"
             f"cpus {{ #address-cells = <1>; #size-cells = <0>; {cpus} }};\n{ram}\n{body}\n}};\n")
@@ -40,14 +40,14 @@ def lost(name, base, size):
 
 
 def nested(outer, inner, beside, inside):
-    """A bus with nodes, and in it a bus with other nodes, each by the rows of its `ranges`."""
+    """Returns a bus with nodes, and inside it a bus with other nodes, each with these rows of `ranges`."""
     cells = "#address-cells = <1>; #size-cells = <1>; ranges ="
     outer = re.sub(r"<(\S+) ", r"<\1 0 ", outer)
     return f"soc {{ {cells} {outer}; {beside} bus@0 {{ {cells} {inner}; {inside} }}; }};"
 
 
 def DEEP(levels):
-    """A tree with so many nodes inside one another below its root."""
+    """Returns a tree with this many nested nodes below its root."""
     return "/dts-v1/;\n/ { " + "n { " * levels + "}; " * levels + "};\n"
 
 

@@ -1,12 +1,11 @@
 #!/usr/bin/env python3
-"""Tries the man page and the completions that tools/manual writes: what each shell offers is what the program's help names.
+"""Tests the man page and the completions that tools/manual writes: each shell must offer what the program's help lists.
 
   tests/completions/run.py PROGRAM
 
-bash is asked by its completion function, zsh at a terminal, as a user would by the tab key, and fish by its own
-`complete -C`; the man page is looked over by mandoc, and has the usual sections, each status and each error of a call. What is
-not installed is left out, and it says so (on Debian:
-apt-get install zsh fish mandoc). The last line that is printed is 'N passed, M failed'.
+The test calls bash's completion function, types at zsh in a terminal with the tab key, as a user would, and runs fish's
+`complete -C`. mandoc checks the man page, which must have the usual sections, each status and each error of a call. The test
+reports missing tools and skips them (on Debian: apt-get install zsh fish mandoc). The last line printed is 'N passed, M failed'.
 """
 import os
 import pty
@@ -31,7 +30,7 @@ def help_of(program, *words):
 
 
 def wanted(program):
-    """What a user has typed, and the words that may come next."""
+    """Returns words that a user has typed, and the words that may follow."""
     commands = re.findall(r"(?m)^  (\w+) ", help_of(program).split("Commands:")[1].split("\n\n")[0])
     yield "pmpmon ", commands
     yield "pmpmon --", ["--help", "--version"]
@@ -60,7 +59,7 @@ def of_fish(folder, typed):
 
 
 def lacking(page):
-    """The sections, statuses and errors of calls that a man page has not."""
+    """Returns the sections, statuses and errors of calls that a man page lacks."""
     sections = ("NAME", "SYNOPSIS", "DESCRIPTION", "COMMANDS", "FILES", "EXIT STATUS", "ERRORS OF CALLS", "EXAMPLES", "NOTES", "SEE ALSO")
     lines = page.read_text().splitlines()
     words = [f".SH {it}" for it in sections] + [f".B {it}" for it in range(5)] + [f".B \\-{it}" for it in (2, *range(101, 113))]
@@ -68,7 +67,7 @@ def lacking(page):
 
 
 class Zsh:
-    """A zsh at a terminal of its own, with the completions of a folder."""
+    """A zsh in its own terminal, with the completions of a folder."""
 
     def __init__(self, folder):
         self.pid, self.terminal = pty.fork()
@@ -82,7 +81,7 @@ class Zsh:
         os.write(self.terminal, text.encode())
 
     def until(self, words):
-        """What it shows until all of these words have come, or for twenty seconds."""
+        """Returns the output until it contains all of these words, or after twenty seconds."""
         text, ends = "", time.monotonic() + 20
         while time.monotonic() < ends and not all(word in text.split() for word in words):
             if select.select([self.terminal], [], [], 0.2)[0]:

@@ -1,9 +1,9 @@
 #!/usr/bin/env python3
-"""Tries the reader of definitions (tests/definitions/run.py) on small texts: what it finds in the whole repository rests on it.
+"""Tests the parser of definitions (tests/definitions/run.py) on small texts, because other checks of the whole repository rely on it.
 
   tests/definitions/own.py
 
-The last line that is printed is 'N passed, M failed'.
+The last line printed is 'N passed, M failed'.
 """
 import importlib.machinery
 import importlib.util
@@ -41,7 +41,7 @@ pub record Drawing (n : ℕ) : Type 0 where
 
 
 def specs_of(**files):
-    """The definitions of these files alone, each by its crate and module."""
+    """Returns the definitions of these files only, each by its crate and module."""
     specs = READ.Specs.__new__(READ.Specs)
     specs.items, specs.inner, specs.scopes, specs.order = {}, {}, {}, []
     for place, text in files.items():

@@ -27,7 +27,7 @@ def uncommented(text, mark):
 
 
 def imports(text):
-    """The `use` items of a text: what each name in scope stands for, as a path, and which are handed on."""
+    """Parses the `use` items of a text: the path that each name in scope stands for, and which names are re-exported."""
     names, handed = {}, []
     for found in re.finditer(r"(?m)^\s*(pub )?(?:ghost )?use (Rattle\.[^;\n{]+?)(?:\.?\{([^}]*)\})?(?: as ([\w◌]+))?;?\s*$", text):
         handed_on, path, several, alias = found.groups()
@@ -78,7 +78,7 @@ class Specs:
                     self.inner.setdefault(f"{key}.{inner.group(1)}", name)
 
     def home(self, path, seen=()):
-        """The definition that a path names, by way of files that hand it on."""
+        """Returns the definition that a path names, following re-exports."""
         if path in self.items:
             return path
         if path in self.inner:
@@ -92,7 +92,7 @@ class Specs:
                 names, handed = self.scopes[scope]
                 if name in handed:
                     return self.home(names[name], seen)
-        # A folder's Lib.antt may hand on a whole file: Rattle.c.specs.File.x, where Lib.antt says `pub use .. File`.
+        # A folder's Lib.antt may re-export a whole file: Rattle.c.specs.File.x, if Lib.antt contains `pub use .. File`.
         found = re.match(r"(Rattle\.\w+\.specs)\.(\w+)\.(.+)$", path)
         if found:
             names, handed = self.scopes.get(found.group(1) + ".Lib", ({}, []))
@@ -101,7 +101,7 @@ class Specs:
         return None
 
     def cited(self, text, names, own=None):
-        """The definitions that a text cites, by the names in its scope."""
+        """Returns the definitions that a text cites, by the names in its scope."""
         operators = [path for name, path in names.items() if "◌" in name and all(part in text for part in name.split("◌"))]
         if own:
             operators += [item for item in self.items if item.rpartition(".")[0] == own and "◌" in item and all(part in text for part in item.rpartition(own + ".")[2].split("◌"))]
@@ -131,7 +131,7 @@ def matching(text, at):
 
 
 def clauses(text, at):
-    """The words of the clauses behind a function's head, from the place of its name on."""
+    """Returns the words of the clauses after a function's head, given the position of its name."""
     depth, found = 0, []
     while at < len(text):
         if text[at] in "(<[":
@@ -159,7 +159,7 @@ def exported(crate):
 
 
 def public_words(crate):
-    """Of each file, what public functions and types say: the clauses' words and the names in scope."""
+    """Returns, for each file, the words of the clauses of public functions and types, and the names in scope."""
     names, modules = exported(crate)
     for path in sorted((CRATES / crate / "src").glob("**/*.rt")):
         parts = path.relative_to(CRATES / crate / "src").with_suffix("").parts
@@ -200,7 +200,7 @@ def public_words(crate):
 
 
 def trusted(specs):
-    """Every definition that a reader has to trust, and the sources that cite it first."""
+    """Returns every definition that a reader has to trust, and the sources that cite it first."""
     roots = defaultdict(set)
     for source in sorted(CRATES.glob("*/src/lib.rt")):
         for path, names, words in public_words(source.parts[-3]):
@@ -217,7 +217,7 @@ def trusted(specs):
 
 
 def page(specs, found):
-    """The page of all definitions that a reader has to trust, a table for each crate."""
+    """Returns the page of all definitions that a reader has to trust, with a table per crate."""
     by_crate = defaultdict(list)
     for item in specs.order:
         if item in found:

@@ -1,4 +1,4 @@
-"""A rough screen for English that readers of this project stumbled over. A flagged sentence is a place to look, not an error."""
+"""A rough screen for English that confused readers of this project. A flagged sentence is a place to look at, not an error."""
 import re
 
 # Each construction, and what to write instead.
@@ -29,7 +29,7 @@ COMPILED = [re.compile(it) for it in PATTERNS.values()]
 
 
 def sentences(text):
-    """The sentences of a Markdown text with at least four words, without code; the cell of a table ends one."""
+    """Returns the sentences of a Markdown text with at least four words, without code; each table cell ends a sentence."""
     text = re.sub(r"(?s)```.*?```", " ", text)
     for block in re.split(r"\n\s*\n|\n(?=[-*#|]|\d+\.)", text):
         block = re.sub(r"^\s*(?:[-*#>|]+|\d+\.)\s*", "", block.strip())
@@ -42,6 +42,6 @@ def sentences(text):
 
 
 def flagged(text):
-    """The flagged sentences of a text, and how many sentences it has."""
+    """Returns the flagged sentences of a text, and its number of sentences."""
     found = list(sentences(text))
     return [it for it in found if any(pattern.search(it) for pattern in COMPILED)], len(found)

@@ -2,22 +2,23 @@
 """Compares documents with what they describe.
 
   tests/documents/run.py          fails if
-                                 - docs/ARCHITECTURE.md's tables and graph of crates differ from crates.txt, or a row differs
-                                   from the first sentence of its crate's doc,
+                                 - docs/ARCHITECTURE.md's graph of crates differs from crates.txt,
+                                 - a crate's doc has no first sentence,
                                  - a crate precedes one that it depends on in crates.txt,
-                                 - docs/GUIDE.md's example in Rattle is not part of EXAMPLE, which the gate compiles,
+                                 - the example in Rattle of docs/guide/c-api.md is not part of EXAMPLE, which the gate compiles,
                                  - docs/PROVED.md lacks a crate or a group of crates.txt, or names a function that its crate does not have,
-                                 - README.md is too long, or shows code that occurs nowhere else,
+                                 - README.md has more than 90 lines,
                                  - CHANGELOG.md begins with another version than the program's,
                                  - a source file or a file of definitions does not begin with a line that says what it is,
                                  - a line of a clause or of definitions has more than 100 characters, or one of a proof more than 160,
-                                 - more than 7 % of the sentences of a document in SCREENED use a construction that english.py lists,
+                                 - more than 7 % of the sentences of a document, or of the comments of a crate or the firmware, use a construction that english.py lists,
                                  - all documents together have more words than WORDS allows,
                                  - a document names a file of this repository that does not exist,
-                                 - firmware/README.md's table of lines differs from what firmware_lines.py counts,
+                                 - firmware/DESIGN.md's table of lines differs from what firmware_lines.py counts,
                                  - the numbers in docs/DECISIONS.md are not 1, 2, 3, ..,
+                                 - docs/guide/porting.md lacks a message of the firmware,
                                  - an edit of tests/documents/edits.txt is missing, or there are more edits than EDITS allows
-  tests/documents/run.py --write  writes the tables, the graph and the lines of the firmware
+  tests/documents/run.py --write  writes the graph and the lines of the firmware
 
 The last line that is printed is 'N passed, M failed'.
 """
@@ -31,26 +32,26 @@ from firmware_lines import table as firmware_lines  # noqa: E402
 
 TOP = Path(__file__).resolve().parents[2]
 PAGE = TOP / "docs" / "ARCHITECTURE.md"
-FIRMWARE = TOP / "firmware" / "README.md"
+FIRMWARE = TOP / "firmware" / "DESIGN.md"
+LIBRARY = TOP / "docs/guide/c-api.md"
 EXAMPLE = TOP / "crates" / "public_surface" / "src" / "example.rt"
-DOCUMENTS = ["README.md", "CHANGELOG.md", "CONTRIBUTING.md", "SECURITY.md", "examples/README.md", "bench/README.md", "firmware/README.md", *sorted(f"docs/{it.name}" for it in TOP.glob("docs/*.md"))]
-# The documents whose English is checked. Each document joins them when it is rewritten.
-SCREENED = ["README.md", "CHANGELOG.md", "docs/DECISIONS.md", "docs/FAQ.md", "docs/GLOSSARY.md", "docs/HOW-IT-WORKS.md", "docs/PROVED.md", "bench/README.md"]
-# The share of flagged sentences in a document, in per cent.
+DOCUMENTS = ["README.md", "CHANGELOG.md", "CONTRIBUTING.md", "SECURITY.md", "examples/README.md", "bench/README.md", "firmware/README.md", "firmware/DESIGN.md",
+             *sorted(str(it.relative_to(TOP)) for folder in ("docs", "docs/guide", "docs/formats") for it in TOP.glob(f"{folder}/*.md"))]
+# The maximal share of flagged sentences in a document, in per cent.
 FLAGGED = 7
-# The words of all documents together.
-WORDS = 72_000
-# The must-fail edits of all crates together.
+# The maximal number of words of all documents together.
+WORDS = 71_500
+# The maximal number of must-fail edits of all crates together.
 EDITS = 170
 # The group of crates that do not belong to the product.
 TESTS = "Tests and examples"
-# Lines of definitions and clauses have at most this many characters, and those of proofs this many.
+# The maximal width of lines of definitions and clauses, and that of proofs.
 WIDTH = 100
 PROOF_WIDTH = 160
 
 
 def lines():
-    """The lines of crates.txt: each crate with its group and what it stands on, in their order."""
+    """Returns the lines of crates.txt: each crate with its group and its dependencies, in their order."""
     group = ""
     for line in (TOP / "crates.txt").read_text().split("\n"):
         name, mark, rest = line.split("#")[0].partition(":")
@@ -61,12 +62,12 @@ def lines():
 
 
 def crates():
-    """What each crate stands on."""
+    """Returns the dependencies of each crate."""
     return {name: needs for name, _, needs in lines()}
 
 
 def groups():
-    """The crates of each group."""
+    """Returns the crates of each group."""
     found = {}
     for name, group, _ in lines():
         found.setdefault(group, []).append(name)
@@ -74,7 +75,7 @@ def groups():
 
 
 def is_lowest_first(graph):
-    """Each crate, and whether all that it stands on stands before it in crates.txt."""
+    """Checks for each crate that all its dependencies precede it in crates.txt."""
     before = set()
     for crate, needs in graph.items():
         yield f"crates.txt: {crate} stands above a crate that it stands on", set(needs) & set(graph) <= before
@@ -82,7 +83,7 @@ def is_lowest_first(graph):
 
 
 def purpose(crate):
-    """The first sentence of a crate's doc."""
+    """Returns the first sentence of a crate's doc."""
     for file in ("lib.rt", "main.rt"):
         path = TOP / "crates" / crate / "src" / file
         if path.is_file():
@@ -92,17 +93,8 @@ def purpose(crate):
     return ""
 
 
-def tables():
-    """A table of crates for each group."""
-    parts = []
-    for group, names in groups().items():
-        rows = [f"| `{it}` | {purpose(it)} |" for it in names]
-        parts.append("\n".join([f"### {group}", "", "| Crate | What it is for |", "|---|---|", *rows]))
-    return "\n\n".join(parts)
-
-
 def drawing(graph):
-    """The groups, and which stands on which, without the arrows that others imply."""
+    """Returns the graph of groups and their dependencies, without the arrows that others imply."""
     group_of = {name: group for name, group, _ in lines()}
     below = {}
     for crate, needs in graph.items():
@@ -125,8 +117,8 @@ def between(text, name):
 
 
 def example_stands():
-    """Whether the guide's example stands in the crate that the gate compiles, indentation aside."""
-    shown = re.search(r"```rust\n(.*?)```", (TOP / "docs" / "GUIDE.md").read_text(), re.S)
+    """Returns whether the guide's example is part of the crate that the gate compiles, apart from indentation."""
+    shown = re.search(r"```rust\n(.*?)```", LIBRARY.read_text().split("## The crates as a library\n")[1], re.S)
     plain = lambda text: [it.strip() for it in text.strip().split("\n")]
     if not shown or not EXAMPLE.is_file():
         return False
@@ -135,16 +127,12 @@ def example_stands():
 
 
 def front_page():
-    """Checks README.md: its length, and that its code in C and in Rattle is part of what the gate compiles."""
-    text = (TOP / "README.md").read_text()
-    yield "README.md has more than 105 lines", len(text.rstrip("\n").split("\n")) <= 105
-    there = {"rust": EXAMPLE.read_text(), "c": (TOP / "docs" / "GUIDE.md").read_text().split("## From C\n")[1].split("\n## ")[0]}
-    for kind, code in re.findall(r"(?ms)^```(rust|c)\n(.*?)^```$", text):
-        yield f"README.md: its code in {kind} occurs nowhere else", code.strip() in there[kind]
+    """Checks the length of README.md."""
+    yield "README.md has more than 90 lines", len((TOP / "README.md").read_text().rstrip("\n").split("\n")) <= 90
 
 
 def promises():
-    """Checks docs/PROVED.md: that it has each group and each crate of the product, with functions that the crate has."""
+    """Checks that docs/PROVED.md has each group and each crate of the product, and names only functions that the crate has."""
     text = (TOP / "docs" / "PROVED.md").read_text()
     wanted = [it for it in groups() if it != TESTS]
     yield "docs/PROVED.md: its sections are not the groups of crates.txt", [it for it in re.findall(r"(?m)^## (.*)$", text) if it in wanted] == wanted
@@ -161,14 +149,14 @@ def promises():
 
 
 def version():
-    """Whether CHANGELOG.md begins with the version that the program tells."""
+    """Checks that CHANGELOG.md begins with the version that the program prints."""
     told = re.search(r'"(\d+\.\d+\.\d+) ', (TOP / "crates" / "command_line" / "src" / "texts.rt").read_text())
     newest = re.search(r"(?m)^## (\S+),", (TOP / "CHANGELOG.md").read_text())
     yield "CHANGELOG.md begins with another version than the program's", told and newest and told.group(1) == newest.group(1)
 
 
 def sources():
-    """Each source file and each file of definitions."""
+    """Returns each source file and each file of definitions."""
     for kind, mark in (("src", "//!"), ("specs", "--")):
         for path in sorted((TOP / "crates").glob(f"*/{kind}/**/*.*t*")):
             if path.suffix in (".rt", ".antt") and path.name != "Lib.antt":
@@ -176,13 +164,13 @@ def sources():
 
 
 def first_lines():
-    """Whether each of these files begins with a line that says what it is."""
+    """Checks that each of these files begins with a line that says what it is."""
     for path, name, mark in sources():
         yield f"{name}: its first line does not say what it is", path.read_text().startswith(mark)
 
 
 def widths():
-    """Whether each line of a clause is narrow, and each line of definitions but one with a text, which stands on one line."""
+    """Checks the width of each line of a clause, and of each line of definitions except those with a text, which stay on one line."""
     for path, name, mark in sources():
         depth = 0
         for number, line in enumerate(path.read_text().split("\n"), 1):
@@ -195,28 +183,56 @@ def widths():
 
 
 def proof_widths():
-    """Whether each line of a proof is narrow, but for lists of imports, which `rt fmt` sets."""
+    """Checks the width of each line of a proof except lists of imports, which `rt fmt` formats."""
     for path in sorted(TOP.glob("crates/*/proofs/**/*.antt")):
         for number, line in enumerate(path.read_text().split("\n"), 1):
             yield f"{path.relative_to(TOP)}:{number}: the line is too wide", len(line) <= PROOF_WIDTH or line.startswith("use ")
 
 
 def english():
-    """Checks the share of flagged sentences in each document of SCREENED."""
-    for document in SCREENED:
-        bad, all_of_them = flagged((TOP / document).read_text())
+    """Checks the share of flagged sentences in each document."""
+    for path in [path for path in sorted(TOP.glob("**/*.md")) if "out" not in path.parts]:
+        document = path.relative_to(TOP)
+        # Generated parts do not count.
+        bad, all_of_them = flagged(re.sub(r"(?s)<!-- \w+ -->.*?<!-- end -->", "", path.read_text()))
         share = 100 * len(bad) / max(all_of_them, 1)
         yield f"{document}: {share:.0f} % of its sentences are flagged, as: {bad[:1]}", share <= FLAGGED
 
 
+def blocks(path, mark):
+    """The comments of a file: consecutive lines that begin with the mark are one text."""
+    lines = []
+    for line in [*path.read_text().split("\n"), ""]:
+        found = re.match(rf"\s*(?:{mark})[/!]*\s?(.*)$", line)
+        if found:
+            lines.append(found.group(1))
+        elif lines:
+            yield "\n".join(lines)
+            lines = []
+
+
+def comments():
+    """Checks the share of flagged sentences in the comments of each crate, and of the firmware."""
+    places = {f"crates/{it}": [*(TOP / "crates" / it).glob("src/**/*.rt"), *(TOP / "crates" / it).glob("specs/**/*.antt")] for it in crates()}
+    for place, paths in places.items():
+        found = [flagged(text) for path in sorted(paths) for text in blocks(path, "--" if path.suffix == ".antt" else "//")]
+        bad = [it for some, _ in found for it in some]
+        share = 100 * len(bad) / max(sum(count for _, count in found), 1)
+        yield f"{place}: {share:.0f} % of the sentences of its comments are flagged, as: {bad[:1]}", share <= FLAGGED
+    texts = [it for path in sorted(TOP.glob("firmware/**/*.[chS]")) for it in re.findall(r"(?s)/\*(.*?)\*/", path.read_text())]
+    found = [flagged(re.sub(r"(?m)^\s*\*", "", it)) for it in texts]
+    bad, count = [it for some, _ in found for it in some], sum(count for _, count in found)
+    yield f"firmware: {100 * len(bad) / count:.0f} % of the sentences of its comments are flagged, as: {bad[:1]}", 100 * len(bad) <= FLAGGED * count
+
+
 def length():
-    """Checks the words of all documents together."""
+    """Checks the number of words of all documents together."""
     found = sum(len(path.read_text().split()) for path in TOP.glob("**/*.md") if "out" not in path.parts)
     yield f"the documents have {found} words, more than {WORDS}", found <= WORDS
 
 
 def files_named():
-    """The paths that documents give in code marks, and whether each is there."""
+    """Checks that each path in code marks in a document exists."""
     for document in DOCUMENTS:
         path = TOP / document
         text = path.read_text() if path.is_file() else ""
@@ -226,7 +242,7 @@ def files_named():
 
 
 def merged():
-    """Whether no document has a mark that a merge left."""
+    """Checks that no document contains the marks of a merge conflict."""
     for path in (*TOP.glob("*.md"), *TOP.glob("docs/**/*.md")):
         yield f"{path.relative_to(TOP)}: a merge left a mark", not re.search(r"(?m)^(?:<{7}|={7}|>{7})(?: |$)", path.read_text())
 
@@ -246,14 +262,23 @@ def edits():
     yield f"there are more than {EDITS} edits", len(list((TOP / "crates").glob("*/must-fail/*.edit"))) <= EDITS
 
 
+def messages():
+    """Checks that docs/guide/porting.md explains each message with which the firmware ends the board or waits."""
+    text = (TOP / "docs/guide/porting.md").read_text()
+    for path in sorted((*TOP.glob("firmware/*.c"), *TOP.glob("firmware/*.S"))):
+        for message in re.findall(r'(?:end_because\(|put\(|\.string )"(?:monitor: )?([a-z][^"\\]{4,})', path.read_text()):
+            plain = re.sub(r"[:, ]+(?:hart )?$", "", message)
+            yield f"docs/guide/porting.md: {path.name} prints '{plain}'", plain in text
+
+
 def firmware_is_counted():
-    """Whether the firmware's README has the lines of each of its files."""
+    """Checks that the firmware's design page has the lines of each of its files."""
     text = FIRMWARE.read_text()
     return text[slice(*between(text, "lines"))] == firmware_lines()
 
 
 def write(parts):
-    """The tables, the graph and the lines of the firmware, anew."""
+    """Writes the graph and the lines of the firmware."""
     text = PAGE.read_text()
     for name, wanted in parts.items():
         start, end = between(text, name)
@@ -265,35 +290,36 @@ def write(parts):
 
 
 def checks_of(graph, parts):
-    """What is checked, by its name: each check's words, and whether it is so."""
+    """Returns the checks by name: each with its words, and whether it passed."""
     text = PAGE.read_text()
     places = {name: between(text, name) for name in parts}
     return {
-        "the tables and the graph of crates": [
+        "the graph of crates": [
             *((f"docs/ARCHITECTURE.md: {name} (tests/documents/run.py --write)", bool(places[name]) and text[slice(*places[name])] == wanted) for name, wanted in parts.items()),
             *((f"crates/{it}: its doc says what it is for", bool(purpose(it))) for it in graph),
             *is_lowest_first(graph),
         ],
-        "the guide's example": [("docs/GUIDE.md: its example is in no crate", example_stands())],
+        "the guide's example": [("docs/guide/c-api.md: its example is in no crate", example_stands())],
         "docs/PROVED.md": list(promises()),
         "the front page": list(front_page()),
         "the version": list(version()),
         "first lines": list(first_lines()),
         "widths of clauses": list(widths()),
         "widths of proofs": list(proof_widths()),
-        "English": list(english()),
+        "English": [*english(), *comments()],
         "words": list(length()),
         "the files that documents name": list(files_named()),
         "marks of merges": list(merged()),
         "the numbers of choices": list(decisions()),
         "edits": list(edits()),
-        "the lines of the firmware": [("firmware/README.md: lines (tests/documents/run.py --write)", firmware_is_counted())],
+        "the messages of the firmware": list(messages()),
+        "the lines of the firmware": [("firmware/DESIGN.md: lines (tests/documents/run.py --write)", firmware_is_counted())],
     }
 
 
 def main():
     graph = crates()
-    parts = {"crates": tables(), "graph": drawing(graph)}
+    parts = {"graph": drawing(graph)}
     if "--write" in sys.argv:
         write(parts)
         return 0

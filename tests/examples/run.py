@@ -1,16 +1,16 @@
 #!/usr/bin/env python3
-"""Runs the program on the traces of examples/, whose comments say what each line is answered, with --expect; shows the maps
-beside which a file says what `show` prints; shows registers, and reads them and boot logs of OpenSBI, beside which a map says
-what `map` prints. Where QEMU and its firmware are installed, the log of its `virt` board is read anew.
+"""Runs the program on examples/: traces with --expect, because their comments contain the expected answers; maps, against the stored
+output of `show`; and listings of registers and boot logs of OpenSBI, against the stored output of `show --registers` and `map`. If
+QEMU and its firmware are installed, the log of the `virt` board is read from a fresh boot.
 
   tests/examples/run.py PROGRAM
 
-A comment of a trace names the command, as `./pmpmon judge examples/A.map examples/B.trace` or with `--registers` and
-a listing, or the platform, as `examples/A.toml`. Behind an event stands its answer. Each trace is run once more with one of its answers changed, which
-has to be told; and with --explain, where each line is the answer and a comment, and of `run` a summary comes last. Beside A.map, A.show has what `./pmpmon show` prints of it, with --entries 64 where the
-list is longer than sixteen. Beside A.log, A.map has what `./pmpmon map` prints of it, and comments. Beside A.registers, A.table has
-what `show --registers` prints, and A.map what `map` does; both with --xlen 32 where its comments say RV32. The last line that is
-printed is 'N passed, M failed'.
+A comment of a trace names the command, such as `./pmpmon judge examples/A.map examples/B.trace` or one with `--registers` and a
+listing, or the platform, such as `examples/A.toml`. The expected answer follows each event. Each trace is run again with one answer
+changed, which must be reported, and with --explain, which must print each answer with a comment, and after `run` a summary.
+A.show is the output of `./pmpmon show` for A.map, with --entries 64 if the list is longer than sixteen. For A.log, A.map is the
+output of `./pmpmon map`, with comments. For A.registers, A.table is the output of `show --registers`, and A.map that of `map`; both
+with --xlen 32 if the comments mention RV32. The last line printed is 'N passed, M failed'.
 """
 import re
 import shutil
@@ -29,9 +29,9 @@ TOP = Path(__file__).resolve().parents[2]
 ANSWER = re.compile(r"#\s*(?:\d+ )?(call -?\d+|irq|ok|fault \d)")
 
 QEMU, BOARD = "qemu-system-riscv64", ["-machine", "virt", "-bios", "default", "-display", "none", "-monitor", "none"]
-# What stands behind the last region.
+# The text after the last region.
 LAST = b"Domain0 Next Address"
-# What the stored map is of.
+# The version of OpenSBI that the stored map is made from.
 VERSION = b"OpenSBI v1.1\r"
 
 
@@ -46,7 +46,7 @@ def command(program, path, text):
 
 
 def shown(program, path):
-    """What `show` prints of the map beside a file, and how that differs from the file."""
+    """Returns the output of `show` for the map of a stored file, and its difference from the file."""
     words = [program, "show", str(path.with_suffix(".map").relative_to(TOP))]
     if "fits 64" in (text := path.read_text()):
         words += ["--entries", "64"]
@@ -56,7 +56,7 @@ def shown(program, path):
 
 
 def tabled(program, path):
-    """What `show --registers` prints of the listing beside a file, and how that differs from the file; then the same of `map`."""
+    """Compares the output of `show --registers` for the listing of a stored file with the file, and that of `map` with its map."""
     listing = path.with_suffix(".registers")
     options = ["--xlen", "32"] if "RV32" in listing.read_text() else []
     told = subprocess.run([program, "show", "--registers", str(listing), *options], capture_output=True, text=True)
@@ -66,7 +66,7 @@ def tabled(program, path):
 
 
 def mapped(program, log, path, options=()):
-    """How what `map` prints of a boot log or a listing differs from the map of a file, its comments left out."""
+    """Compares the output of `map` for a boot log or a listing with a stored map, ignoring the comments of the latter."""
     told = subprocess.run([program, "map", "-", *options], input=log, capture_output=True)
     want = [line for line in path.read_text().split("\n") if not line.startswith("#")]
     pairs = zip_longest(want, told.stdout.decode().split("\n"))
@@ -74,7 +74,7 @@ def mapped(program, log, path, options=()):
 
 
 def booted():
-    """What OpenSBI prints on QEMU's board `virt`, or why it can't be had."""
+    """Returns the output of OpenSBI on QEMU's `virt` board, or the reason why there is none."""
     if not shutil.which(QEMU):
         return None, f"{QEMU} is not installed"
     with tempfile.TemporaryDirectory() as folder:
@@ -93,7 +93,7 @@ def booted():
 
 
 def expected(words, path, text):
-    """What is wrong with the answers to a trace, or with what is told of one that is changed."""
+    """Returns what is wrong with the answers to a trace, or with the report on a changed answer."""
     told = subprocess.run(words, cwd=TOP, capture_output=True, text=True)
     if told.returncode or told.stderr:
         return told.stderr.strip() or told.stdout.rstrip("\n").split("\n")[-1]
@@ -110,7 +110,8 @@ def expected(words, path, text):
 
 
 def explained(words):
-    """What is wrong with the answers to a trace that are explained: without their comments they are those that are printed, and behind those of `run` a summary stands."""
+    """Returns what is wrong with explained answers: without their comments they must be the plain ones, and a summary follows those of
+    `run`."""
     plain, told = (subprocess.run([*words[:-1], *more], cwd=TOP, capture_output=True, text=True) for more in ([], ["--explain"]))
     if told.returncode or told.stderr:
         return told.stderr.strip() or f"status {told.returncode}"
@@ -123,13 +124,13 @@ def explained(words):
 
 
 def tried():
-    """The commands of examples/README.md, each with its words."""
+    """Returns the commands of examples/README.md, each with its words."""
     for line in re.findall(r"(?m)\| `\./pmpmon ([^`]*)` \|$", (TOP / "examples" / "README.md").read_text()):
         yield line.split()
 
 
 def compared(count, name, wrong):
-    """Counts what is compared, by what is wrong with it."""
+    """Counts a comparison, given what is wrong with it."""
     count.note(not wrong, name, wrong)
 
 

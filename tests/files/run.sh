@@ -1,21 +1,19 @@
 #!/usr/bin/env bash
-# The files of the program: standard input under its word, files that are not there, devices that are full, certificates
-# and their places; and what the program says of itself.
+# Tests the program's files: standard input as `-`, absent files, full devices, certificates and their places; and the texts of help,
+# the version and command-line errors.
 #
 #   tests/files/run.sh PROGRAM [--write]
 #
-# Each command that takes `-` answers as it does with the file's name. A trace that comes by a pipe is answered line by line
-# while the pipe stays open. An input that is not there or can't be read is 'cannot read' and status 3 for each command:
-# nothing is printed, and no certificate is made. Output that a full device refuses is 'cannot write' and status 3. A
-# certificate that is the map's file, by a link, or the file at standard input or output, is a fault of the command line, and
-# what stands there stays. A certificate under the
-# name of a link stands where the link leads; the new file beside it is made in that folder, under the first name that is
-# free, and whoever may read the old one may read it. A pipe takes the certificate and stays a pipe.
-# With `--hints always` the lines that `lint` has on the first file at fault stand behind the line of the trouble, as hints;
-# without it they do where standard error is a terminal alone. Standard input has none.
-# Where a file can't be had or made, the hint says why. Names have no control characters in messages. What a signal interrupts
-# for good leaves what was answered in the file that standard output is.
-# Help, the version and the faults of command lines are those of tests/files/texts, which `--write` writes anew.
+# Each command that takes `-` must behave as with the file's name. A trace from a pipe is answered line by line while the pipe is open.
+# An input that is absent or unreadable is 'cannot read' and status 3 for each command: nothing is printed, and no certificate is made.
+# Output that a full device refuses is 'cannot write' and status 3. A certificate that is the map's file, through a link, or the file at
+# standard input or output, is an error of the command line, and that file is unchanged. If a certificate's name is a link, the file is
+# written where the link leads; the new file beside it is made in that folder, under the first free name, and has the old file's
+# permissions. A pipe receives the certificate and stays a pipe.
+# With `--hints always` the hints of `lint` for the first invalid file follow the error; by default they do so only if standard error is
+# a terminal. Standard input has no hints. If a file cannot be opened or made, the hint states the reason. Names in messages have no
+# control characters. A signal that ends the program leaves all answers so far in the file at standard output.
+# Help, the version and command-line errors are those of tests/files/texts, which `--write` rewrites.
 # The last line is 'N passed, M failed'; any failure makes the status 1.
 set -u
 
@@ -44,7 +42,8 @@ printf 'load s 8 0x80200000\nload s 8 0\n' >trace
 printf '[monitor]\nbase = 0x80000000\nsize = 0x200000\n[[ram]]\nbase = 0x80000000\nsize = 0x8000000\n' >platform
 "$program" plan map cert >registers 2>got.err || note 1 'plan'
 
-# The command whose word FILE is `-`, with the file at standard input, against the same command with the file's name.
+# Runs the command with `-` for its word FILE and the file at standard input, and compares with the command with the
+# file's name.
 same() {
     local file=$1 status
     shift
@@ -81,7 +80,8 @@ for file in registers wrong; do
     same $file map FILE
 done
 
-# A pipe that stays open: each whole line is answered before the next one is waited for, and after a part of one too.
+# Keeps a pipe open: each whole line is answered before the program waits for the next one, even after a part of that
+# one.
 at_once() {
     local answers lines
     rm -f asked answered
@@ -97,27 +97,27 @@ at_once() {
     read -r -t 30 -u $answers third
     exec {answers}<&-
     wait $!
-    # shellcheck disable=SC2154 # (each file of answers sets `want`)
+    # shellcheck disable=SC2154 # (each call sets `want`)
     [ $? = 0 ] && [ "$first/$second/$third" = "$want" ] && [ ! -s got.err ]
     note $? "$* < a pipe that stays open"
 }
 want='1 ok/2 fault 5/3 ok' at_once judge map -
 want='1 ok 0x0000000000000000/2 fault 5/3 ok 0x0000000000000000' at_once run platform -
 
-# What ended: the status, what was printed (nothing), and the text on standard error.
+# Checks the status, that nothing was printed, and the text on standard error.
 ended() {
     local status=$1
     [ "$status" = "$2" ] && [ ! -s got.out ] && [ "$(cat got.err)" = "$3" ]
 }
 
-# The command whose word FILE is a name under which nothing can be read.
+# Runs the command with an unreadable name for its word FILE.
 no_file() {
     "$program" "${@/FILE/$name}" >got.out 2>got.err
     ended $? 3 "pmpmon: $name: cannot read" && ! compgen -G 'none.cert*' >/dev/null
     note $? "$* : $kind"
 }
 
-# The command with --hints as given: the status 2, and on standard error the line LINE and the hints of the lint LINT.
+# Runs the command with --hints as given: status 2, and on standard error the line LINE and the hints of the lint LINT.
 hints() {
     local line=$1 lint=$2
     shift 2
@@ -127,7 +127,7 @@ hints() {
     note $? "$*"
 }
 
-# The same command, which has none.
+# Runs the command, which must print no hints.
 no_hints() {
     local line=$1
     shift
@@ -149,7 +149,7 @@ hints "pmpmon: wrong$unknown" 'lint --trace wrong' judge map wrong --hints alway
 hints "pmpmon: wrong$unknown" 'lint --trace wrong --platform platform' run platform wrong --hints always
 hints 'pmpmon: wrong.toml: not a platform' 'lint wrong.toml' run wrong.toml trace --hints always
 no_hints "pmpmon: -$unknown" plan - --hints always <wrong
-# The command with these words: that status, and these lines on standard error.
+# Runs the command with these words, and checks the status and the lines on standard error.
 told() {
     local status=$1 lines=$2
     shift 2
@@ -183,7 +183,7 @@ if [ -n "$(command -v script)" ]; then
     script -qec "'$program' plan wrong --hints never" /dev/null </dev/null | tr -d '\r' >got.err
     [ "$(cat got.err)" = "pmpmon: wrong$unknown" ]
     note $? 'no hints on a terminal with --hints never'
-    # It is standard error that is asked for, and not standard output, nor standard input.
+    # Hints depend on standard error, not on standard output or standard input.
     script -qec "'$program' plan wrong 2>got.err" /dev/null </dev/null >/dev/null
     [ "$(cat got.err)" = "pmpmon: wrong$unknown" ]
     note $? 'no hints in a file, where standard output is a terminal'
@@ -227,7 +227,7 @@ for kind in 'absent' 'in an absent folder' 'a folder' 'under a plain file' 'a li
     no_file run platform FILE --measure
 done
 
-# The same command with --hints always: behind the line of the trouble stands why.
+# Runs the command with --hints always: the reason follows the error.
 reason() {
     local name=$1 why=$2 trouble=$3
     shift 3
@@ -256,7 +256,7 @@ note $? 'plan map --hints always >/dev/full : no space left'
 [ -L loop ]
 note $? 'a link to itself stays a link'
 
-# A file that may not be read, where the user is not one who may read all.
+# A file that may not be read, unless the user may read everything.
 cp map secret
 chmod 000 secret
 if [ ! -r secret ]; then
@@ -266,7 +266,7 @@ if [ ! -r secret ]; then
     no_file run platform FILE
 fi
 
-# Standard output is a full device: each command that prints says so, whatever its own status below 2 is.
+# Standard output is a full device: each command that prints reports that, if its own status is below 2.
 full() {
     "$program" "$@" >/dev/full 2>got.err
     [ $? = 3 ] && [ "$(cat got.err)" = 'pmpmon: standard output: cannot write' ]
@@ -298,7 +298,7 @@ full run platform trace
 full --help
 full --version
 full plan --help
-# What printed nothing has nothing to lose, and a trouble that was told keeps its status.
+# A command that prints nothing loses nothing, and an error that was reported keeps its status.
 : >empty
 "$program" judge map empty >/dev/full 2>got.err
 [ $? = 0 ] && [ ! -s got.err ]
@@ -307,12 +307,12 @@ printf 'load s 8 0x80200000\nno event\n' >stops
 "$program" judge map stops >/dev/full 2>got.err
 [ $? = 2 ] && [ "$(cat got.err)" = 'pmpmon: stops: line 2 is not understood' ]
 note $? 'judge map stops >/dev/full'
-# What is answered before a trouble comes, though the status is the trouble's.
+# The answers before an error are printed, with the status of the error.
 "$program" judge map stops >got.out 2>got.err
 [ $? = 2 ] && [ "$(cat got.out)" = '1 ok' ]
 note $? 'judge map stops: the answer before it'
 
-# Standard error is a full device: the status stays.
+# Standard error is a full device: the status is unchanged.
 for words in '3 plan absent' '2 plan wrong' '2 plan' '3 check map absent'; do
     read -r status words <<<"$words"
     "$program" $words >got.out 2>/dev/full
@@ -320,7 +320,7 @@ for words in '3 plan absent' '2 plan wrong' '2 plan' '3 check map absent'; do
     note $? "$words 2>/dev/full"
 done
 
-# A pipe in the place of the certificate.
+# A pipe at the certificate's place.
 mkfifo pipe
 timeout 20 cat pipe >piped &
 timeout 20 "$program" plan map pipe >got.out 2>got.err
@@ -330,7 +330,7 @@ note $? 'plan map pipe, which stays a pipe'
 wait $! && cmp -s piped cert
 note $? 'the reader of the pipe has the certificate'
 
-# A certificate of more than 3 MiB, which would be too large for a map.
+# A certificate of more than 3 MiB, too large for a map.
 for ((i = 0; i < 4096; i++)); do echo "$((i << 44)) 4096 r"; done >many
 "$program" plan many large >got.out 2>got.err && [ "$(stat -c %s large)" -gt 3145728 ]
 note $? 'plan many large'
@@ -350,7 +350,7 @@ for cert in link other; do
     note $? "plan map $cert, the same file"
 done
 
-# Two files of two devices have one number there: they are not the same.
+# Two files on two devices with the same inode number are not the same.
 if [ -n "$(command -v unshare)" ] && unshare -m sh -c 'mkdir one two && mount -t tmpfs none one' 2>/dev/null; then
     unshare -m sh -c 'mount -t tmpfs none one && mount -t tmpfs none two && cp map one && echo old >two/cert && stat -c %i one/map two/cert &&
         "$0" plan one/map two/cert && cat two/cert >got.cert' "$program" >got.out 2>got.err
@@ -363,7 +363,7 @@ rm -rf one two got.cert
 "$program" plan - third <map >got.out 2>got.err && cmp -s third cert && ! compgen -G 'third.*' >/dev/null
 note $? 'plan - third < map'
 
-# The file that a certificate is written to first: `.part` and a digit behind the name of its place.
+# A certificate is first written to a file with `.part` and a digit after its name.
 mkdir folder
 echo old >folder/place
 chmod 640 folder/place
@@ -384,7 +384,7 @@ note $? 'plan map folder/place, all names beside it taken'
 
 reason folder/place 'its names beside it, .part0 to .part9, are taken' 'cannot write' plan map folder/place
 
-# A name to which nothing can be added: the file beside it has a short name in its folder.
+# A name that cannot be extended: the file beside it has a short name in its folder.
 mkdir long
 for name in "$(printf 'c%.0s' {1..250})" "$(printf 'c%.0s' {1..255})"; do
     echo old >long/$name
@@ -399,7 +399,7 @@ for name in "$(printf 'c%.0s' {1..250})" "$(printf 'c%.0s' {1..255})"; do
     rm -r long/*
 done
 
-# A link that leads nowhere: what it leads to is made, through further links and in their folders.
+# A dangling link: its target is made, through further links and in their folders.
 ln -s folder/next dangling
 ln -s made folder/next
 "$program" plan map dangling >got.out 2>got.err
@@ -430,7 +430,7 @@ note $? 'plan map /dev/null >/dev/null'
 [ ! -s got.err ] && [ "$(stat -c %s got.out)" = "$(cat registers cert | wc -c)" ]
 note $? 'plan map /dev/stdout, a pipe'
 
-# A folder that takes no new file: a file that stands there is written as it stands, and nothing is made.
+# A folder that accepts no new file: an existing file is overwritten in place, and no file is made.
 if [ "$(id -u)" = 0 ] && [ -n "$(command -v setpriv)" ]; then
     open=$(mktemp -d)
     cp "$program" map "$open"
@@ -456,7 +456,7 @@ hint: map: no permission"
     rm -r "$open"
 fi
 
-# Names with control characters: messages have no others than the ends of their lines.
+# Names with control characters: messages contain only the ends of their lines.
 odd=$'a\nb\e[31m'
 "$program" plan "$odd" --hints always >got.out 2>got.err
 ended $? 3 'pmpmon: a\x0ab\x1b[31m: cannot read
@@ -480,14 +480,14 @@ note $? 'a value of an option with those'
 ended $? 2 "error: the command line: word 2 is no UTF-8 from its byte 5 on: 'ma\\x0ap\\xff\\xfe'"
 note $? 'a word that is no UTF-8'
 
-# The file has the name that was given, and not the one that messages show.
+# The file has the given name, not the one that messages display.
 mkdir odd
 (cd odd && "$program" plan ../map $'c\te' >../got.out 2>../got.err)
 [ $? = 0 ] && [ ! -s got.err ] && [ "$(ls --quoting-style=escape odd)" = 'c\te' ] && cmp -s odd/$'c\te' cert
 note $? 'a certificate whose name has a control character'
 rm -r odd
 
-# Control characters beyond ASCII, U+0080 to U+009F, are such too; in JSON each name is itself.
+# Control characters beyond ASCII, U+0080 to U+009F, are escaped too; JSON contains the actual name.
 odd=$'a\xc2\x9b31m\xc2\xa0'
 "$program" plan "$odd" >got.out 2>got.err
 ended $? 3 $'pmpmon: a\\xc2\\x9b31m\xc2\xa0: cannot read'
@@ -498,8 +498,8 @@ cp map "$odd"
 [ $? = 0 ] && python3 -c 'import json, sys; sys.exit(json.load(open("got.out"))["map"] != sys.argv[1])' "$odd"
 note $? 'a name with all control characters in JSON'
 
-# A certificate is a new file with the permissions of the old one: it is that of who runs the program, and other names of the
-# old file keep that.
+# A certificate is a new file with the permissions of the old one, owned by the user who runs the program; other names
+# of the old file keep the old contents.
 echo old >fixed
 ln fixed fixed.other
 chmod 444 fixed
@@ -508,7 +508,7 @@ chmod 444 fixed
 [ $? = 0 ] && cmp -s fixed cert && [ "$(stat -c '%a %u' fixed)" = "444 $(id -u)" ] && [ "$(cat fixed.other)" = old ]
 note $? 'plan map fixed, a file of another user that may not be written'
 
-# A signal that ends the program leaves what was answered, in a file too: what was read was answered, and that is written.
+# A signal that ends the program leaves the answers to everything that was read, in a file too.
 for ((i = 0; i < 20000; i++)); do echo 'load s 8 0x80200000'; done >many
 "$program" run platform many >want.answers
 killed() {
@@ -534,14 +534,16 @@ os.execv(sys.argv[1], sys.argv[1:])' "$program" run platform - <asked >answers 2
 killed INT
 killed TERM
 
-# What the program says of itself: each line of words, what it prints, what it says on standard error, and its status.
+# The program's own texts: each line of words, its output, its messages, and its status.
 texts() {
     local line words status
     while IFS= read -r line; do
         eval "words=($line)"
         echo "\$ pmpmon $line"
-        "$program" "${words[@]}" 2>got.err
+        "$program" "${words[@]}" >got.out 2>got.err
         status=$?
+        # (an unproved build claims no proof)
+        sed 's/^Not proved yet: /Proved: /' got.out
         sed 's/^/2: /' got.err
         echo "status $status"
     done <<'END'
@@ -605,7 +607,7 @@ for name in run plan judge check show audit map lint measure platform; do
         note $? "$words"
     done
 done
-# The version that is told is that of CHANGELOG.md's first heading.
+# The version is that of CHANGELOG.md's first heading.
 told=$("$program" --version | sed -n '1s/^pmpmon \([0-9.]*\) .*/\1/p')
 [ -n "$told" ] && [ "$told" = "$(sed -n 's/^## \([0-9.]*\), .*/\1/p' "$here/../../CHANGELOG.md" | head -n 1)" ]
 note $? "the version, against CHANGELOG.md"

@@ -1,11 +1,11 @@
 #!/usr/bin/env python3
-"""The planner alone against the program: what a first start answers to `plan MAP` is what the program answers.
+"""Compares the planner alone with the program: the answer of a first run to `plan MAP` must be the program's.
 
   tests/first_plan/run.py PROGRAM
 
-It builds crates/map_planner where it is older than a source (tools/build --planner). Each map of examples/, 200 random ones and
-wrong ones are planned by both. Where a map fits sixteen entries, output and status have to be the same. Where the planner has no
-answer, it has to print nothing, with status 1. The last line that is printed is 'N passed, M failed'.
+The test builds crates/map_planner if it is older than a source (tools/build --planner). Both plan each map of examples/, 200 random
+maps and invalid ones. If a map fits sixteen entries, output and status must be equal. Otherwise the planner must print nothing and
+exit with status 1. The last line printed is 'N passed, M failed'.
 """
 import random
 import subprocess
@@ -49,7 +49,7 @@ def entries_in(listed):
 
 
 def agrees(program, file):
-    """Whether both say the same of a map that fits, and the planner nothing of another; and whether it fits."""
+    """Returns whether both agree on a map that fits, or the planner prints nothing for another; and whether it fits."""
     status, listed, _ = answer(program, "plan", file)
     fits = status == 0 and entries_in(listed) <= 16
     return answer(PLANNER, file) == ((0, listed, b"") if fits else (1, b"", b"")), fits

@@ -1,11 +1,11 @@
 #!/usr/bin/env python3
-"""The first start of `./pmpmon`, and `./pmpmon --unproved`, over a stand-in for `rt` that proves nothing and takes a second.
+"""Tests the first run of `./pmpmon`, and `./pmpmon --unproved`, with a stand-in for `rt` that proves nothing and takes a second.
 
   tests/first_start/run.py
 
-Compares standard output, standard error and the status of each kind of start: help and errors of the command line, the first start, one
-that the planner alone answers, one that is stopped, one whose proof fails, one that reads a pipe, the second. The last line that is
-printed is 'N passed, M failed'.
+The test compares standard output, standard error and the status of each kind of run: help and errors of the command line, the first
+run, one that the planner alone answers, one that is interrupted, one whose proof fails, one that reads a pipe, and the second. The
+last line printed is 'N passed, M failed'.
 """
 import importlib.machinery
 import importlib.util
@@ -24,8 +24,9 @@ sys.dont_write_bytecode = True
 from counting import Count  # noqa: E402
 
 TOP = Path(__file__).resolve().parents[2]
-# Answers as rt does: a try with status 3 (none for the word `long`), a proof of two crates, and a program with status 5. The planner
-# alone ends with 1 where its map is empty, and with 3 where it says `full`; a try of it with 1 and with 0.
+# Answers like rt: a try with status 3 (never for the word `long`), a proof of two crates, and a program with status 5.
+# The planner alone exits with 1 if its map is empty, and with 3 if it contains `full`; a try of it exits with 1 and
+# with 0.
 RT = """#!/usr/bin/env bash
 while [ "$1" = try ] && [ "$2" = --data ]; do
     case "$3" in long=*) echo 'run=limit proved=no' >&2; exit 2 ;; esac
@@ -65,8 +66,8 @@ case "$1 $2" in
 esac
 """
 
-# What tools/prove asks of the kit's library, over five crates, whose sources are those of the version that the environment tells;
-# measurement is not proved where it says so.
+# The part of the kit's library that tools/prove uses, for five crates whose sources have the version in the
+# environment; measurement is not proved if that version says so.
 LIBRARY = """import os, sys
 BELOW = {"pmp_encoding": [], "measurement": ["pmp_encoding"], "page_views": ["pmp_encoding"], "entry_planner": ["pmp_encoding", "page_views"]}
 LIBRARIES = [*BELOW]
@@ -120,7 +121,7 @@ TOOLS = [f"tools/{it}" for it in ("at_once", "build", "help.txt", "prove", "plan
 
 
 class House:
-    """A repository of the few files that a start reads, with the stand-in on the PATH."""
+    """A repository with the few files that a run reads, and the stand-in on the PATH."""
 
     def __init__(self, folder):
         self.folder, self.asked = folder, folder / "asked"
@@ -145,7 +146,7 @@ class House:
         return self.asked.read_text().split("\n")[:-1] if self.asked.is_file() else []
 
     def wait_for_call(self, before, seconds=60):
-        """Until the stand-in is called once more: on a busy machine a start takes its time."""
+        """Waits until the stand-in is called once more; on a busy machine a run takes its time."""
         ends = time.monotonic() + seconds
         while self.calls() == before and time.monotonic() < ends:
             time.sleep(0.1)
@@ -232,7 +233,7 @@ def failing_proof(house):
 
 
 def stopped(house):
-    # A test that runs in the background may have been begun with SIGINT ignored, which what it begins would keep.
+    # A test in the background may have been started with SIGINT ignored, which its children would inherit.
     def heed():
         signal.signal(signal.SIGINT, signal.SIG_DFL)
 
@@ -300,7 +301,7 @@ def failing_planner(house):
 
 
 def load(path):
-    """A script as a module."""
+    """Loads a script as a module."""
     loader = importlib.machinery.SourceFileLoader(path.stem, str(path))
     made = importlib.util.module_from_spec(importlib.util.spec_from_loader(path.stem, loader))
     sys.modules[path.stem] = made
@@ -312,6 +313,8 @@ def at_once(house):
     for words, status in ((["--help"], 0), (["plan", "--help"], 0), (["--version"], 0), (["draw"], 2), (["plan"], 2), (["plan", "m.map", "--entries", "17"], 2)):
         ran = house.start(*words)
         yield f"on an unbuilt clone: {' '.join(words)}", ran.returncode == status and bool(ran.stdout) == (status == 0) and bool(ran.stderr) == (status == 2)
+    version = house.start("--version").stdout
+    yield "on an unbuilt clone the version claims no proof", b"Not proved yet: " in version and b"\nProved" not in version
     yield "on an unbuilt clone: none of these starts a proof", house.calls() == []
     answers, transcripts = load(TOP / "tools" / "at_once"), load(TOP / "tests" / "transcripts" / "run.py")
     known, answered = answers.texts(), 0

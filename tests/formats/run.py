@@ -1,17 +1,15 @@
 #!/usr/bin/env python3
-"""Reads what `plan --format c|asm|json` prints as others would read it, and compares the registers with what `plan` prints
-as text.
+"""Reads the output of `plan --format c|asm|json` as its users would, and compares the registers with the text output of `plan`.
 
   tests/formats/run.py PROGRAM
 
-For each map of examples/ and each limit: C is compiled, strictly, and the compiled program tells its arrays; its function
-is compiled for RV64, and writes each register once, in order; with a name it differs in its names alone. Assembly is
-assembled, and with a name is a routine. (Where no assembler for RISC-V is installed, it says so.) JSON is read by Python's
-parser. A list from entry 3 on has its registers so much further, and the words that load it leave three entries. Then audit loads the words that came back. A compiler for RV32 refuses both C and assembly. With --xlen 32 the
-same registers stand in words of four entries, C and assembly are taken by a compiler for RV32, and refused by one for RV64;
-a list with an entry beyond 2^34 is too far. A list that does not
-fit the limit has no registers: C and assembly say how many entries it needs. The last line that is printed is
-'N passed, M failed'.
+For each map of examples/ and each limit: C is compiled with strict warnings, and the compiled program prints its arrays; its function
+is compiled for RV64 and must write each register once, in order; with a name, only its names differ. Assembly is assembled, and with a
+name is a routine. (The test reports if no assembler for RISC-V is installed.) JSON is read by Python's parser. A list from entry 3 on
+has its registers three further, and the code that loads it leaves three entries unchanged. Then audit loads the words that were read.
+A compiler for RV32 refuses both C and assembly. With --xlen 32 the same registers are in words of four entries, and C and assembly
+are accepted by a compiler for RV32 and refused by one for RV64; a list with an entry beyond 2^34 is too far. A list that does not fit
+the limit has no registers: C and assembly state how many entries it needs. The last line printed is 'N passed, M failed'.
 """
 import json
 import re
@@ -44,18 +42,18 @@ void load(void)
     board_load();
 }
 """
-# The entry at which a list begins, where it does not begin at entry 0.
+# The first entry of a list that does not begin at entry 0.
 FIRST = 3
 PERMS = {0: "none", 1: "r", 3: "rw", 4: "x", 5: "rx", 7: "rwx"}
 
 
 def compiler_for_riscv():
-    """The compiler and assembler for RISC-V that is installed, if one is."""
+    """Returns the installed compiler and assembler for RISC-V, if there is one."""
     return next((tool for tool in ASSEMBLERS if shutil.which(tool)), None)
 
 
 class Text:
-    """What `plan` prints as text: the entries' pairs, and the configuration words where the list fits."""
+    """The text output of `plan`: the pairs of the entries, and the configuration words if the list fits."""
 
     def __init__(self, told, limit):
         lines = told.splitlines()
@@ -66,7 +64,7 @@ class Text:
         self.fits = count <= limit
 
     def registers(self):
-        """Every register of the bank, by name."""
+        """Returns every register of the bank, by name."""
         addresses = [address for _, address in self.pairs]
         named = {f"pmpaddr{i}": address for i, address in enumerate(addresses + [0] * (self.limit - len(addresses)))}
         return named | {f"pmpcfg{2 * i}": word for i, word in enumerate(self.words)}
@@ -85,14 +83,14 @@ def of_c(text, printed, folder):
 
 
 def of_names(text, printed, named):
-    """Whether what is printed with a name differs from what is printed without one in the names alone."""
+    """Returns whether the output with a name differs from the one without only in the names."""
     for suffix in ("addr", "cfg"):
         named = named.replace(f"board_pmp{suffix}", f"pmp{suffix}")
     return named.replace("board_", "pmp_") == printed and f"enum {{ pmp_count = {len(text.pairs)} }};" in printed
 
 
 def of_load(text, printed, named, folder):
-    """Whether the function writes each register once, the addresses first, and then fences."""
+    """Returns whether the function writes each register once, the addresses first, and then fences."""
     compiler = compiler_for_riscv()
     for name, told in (("registers.h", printed), ("named.h", named), ("calls.c", CALLS)):
         (folder / name).write_text(told)
@@ -104,7 +102,7 @@ def of_load(text, printed, named, folder):
 
 
 def of_routine(printed, named):
-    """Whether assembly with a name is the same instructions between a label and `ret`."""
+    """Returns whether assembly with a name is the same instructions between a label and `ret`."""
     head, mark, body = printed.partition(" */\n/* Only")
     return named == f"{head} */\nboard_load:\n/* Only{body}    ret\n"
 
@@ -122,7 +120,7 @@ def of_asm(text, printed, folder):
 
 
 def is_refused_by_rv32(printed, ending, folder):
-    """Whether a compiler for RV32 refuses what is printed for its guard, and takes an empty file of that kind."""
+    """Returns whether a compiler for RV32 refuses the output because of its guard, and accepts an empty file of that kind."""
     compiler = compiler_for_riscv()
     kind = ["-x", "c", "-std=c99", "-ffreestanding"] if ending == ".h" else []
     said = []
@@ -136,7 +134,7 @@ def is_refused_by_rv32(printed, ending, folder):
 
 
 def region_of(cfg, address):
-    """The first byte and the size of a pair's region, by the privileged architecture."""
+    """Returns the first byte and the size of a pair's region, by the privileged architecture."""
     if cfg >> 3 & 3 == 2:
         return 4 * address, 4
     ones = (address ^ (address + 1)).bit_length() - 1
@@ -149,11 +147,11 @@ def of_json(text, printed, name):
     for i, (cfg, address) in enumerate(text.pairs):
         base, size = region_of(cfg, address)
         wanted.append({"index": i, "cfg": cfg, "addr": f"0x{address:016x}", "base": f"0x{base:016x}", "size": size, "perm": PERMS[cfg & 7]})
-    return plan == {"map": str(name), "limit": text.limit, "entries": wanted, "pmpcfg": [f"0x{word:016x}" for word in text.words]}
+    return plan == {"map": str(name), "limit": text.limit, "fits": len(wanted) <= text.limit, "entries": wanted, "pmpcfg": [f"0x{word:016x}" for word in text.words]}
 
 
 def above(text):
-    """The registers of the list from entry FIRST on: those below it are zero."""
+    """Returns the registers of the list from entry FIRST on, with zeros before it."""
     addresses = [0] * FIRST + [address for _, address in text.pairs]
     cfgs = [0] * FIRST + [cfg for cfg, _ in text.pairs]
     addresses, cfgs = (those + [0] * (text.limit - len(those)) for those in (addresses, cfgs))
@@ -162,7 +160,7 @@ def above(text):
 
 
 def of_first(program, name, text, folder):
-    """Whether a list from entry FIRST on is the same list so much further, and what loads it leaves the entries below."""
+    """Returns whether a list from entry FIRST on is the same list moved by FIRST, and loading it leaves the entries before it unchanged."""
     plain, printed, assembly, data = (asked(program, name, text.limit, form, "--first", str(FIRST)).stdout for form in ("text", "c", "asm", "json"))
     wanted, plan = above(text), json.loads(data)
     listed = [f"entries {len(text.pairs)}", *(f"{FIRST + i} 0x{cfg:02x} 0x{address:016x}" for i, (cfg, address) in enumerate(text.pairs))]
@@ -194,7 +192,7 @@ def of_first(program, name, text, folder):
 
 
 def is_taken(printed, ending, width, folder):
-    """Whether a compiler for RISC-V of that width takes what is printed."""
+    """Returns whether a compiler for RISC-V of that width accepts the output."""
     compiler = compiler_for_riscv()
     if not compiler:
         return None
@@ -207,7 +205,7 @@ def is_taken(printed, ending, width, folder):
 
 
 def of_narrow(program, name, text, folder):
-    """Whether the registers of RV32 are the same entries', in words of four, and only its compiler and assembler take them."""
+    """Returns whether the registers of RV32 are of the same entries, in words of four, and only RV32 tools accept them."""
     told = {form: asked(program, name, text.limit, form, "--xlen", "32") for form in ("text", "c", "asm", "json")}
     if any(base + size > 1 << 34 for base, size in (region_of(cfg, address) for cfg, address in text.pairs)):
         return all((it.returncode, it.stdout, it.stderr) == (2, "", f"pmpmon: {name}: too far: 34 bits\n") for it in told.values())
@@ -227,7 +225,7 @@ def of_narrow(program, name, text, folder):
 
 
 def audited(program, path, text, folder):
-    """What audit says of the registers that came back."""
+    """Returns the result of auditing the registers that were read."""
     (folder / "registers").write_text("".join(f"{name} 0x{value:x}\n" for name, value in text.registers().items()))
     return subprocess.run([program, "audit", path, folder / "registers"], capture_output=True, text=True, cwd=TOP).returncode == 0
 
@@ -237,7 +235,7 @@ def asked(program, name, limit, form, *more):
 
 
 def holds(test, *of):
-    """Whether a test holds; what cannot be compiled, assembled or parsed fails it."""
+    """Returns whether a test passes; output that cannot be compiled, assembled or parsed fails it."""
     try:
         return test(*of)
     except (subprocess.CalledProcessError, ValueError, LookupError) as fault:
@@ -246,7 +244,7 @@ def holds(test, *of):
 
 
 def results(program, name, limit):
-    """Each thing that is tested of a map, and whether it holds."""
+    """Returns each check of a map, and whether it passed."""
     text = Text(asked(program, name, limit, "text").stdout, limit)
     forms = {form: asked(program, name, limit, form) for form in ("c", "asm", "json")}
     with tempfile.TemporaryDirectory() as made:

@@ -5,19 +5,19 @@
                                    at the end or when the run is stopped
   tests/gate/run.py TABLE edits    the same, and also tries each must-fail edit
 
-Once a second it looks at the checks that run below `rt` and at their processor time: the proof of a crate, of its tests, the one that a
-crate's edits start from, or that of an edit. The last second of a check is lost. The slowest edits follow the table. Some kits try a
-crate's edits in turn without numbers; there the first check of a crate's edits counts as the one that they start from.
+Once a second the script samples the processor time of the checks below `rt`: of a crate's proof, of its tests, of the check that its
+edits start from (the seed), and of each edit. The last second of a check is lost. The slowest edits follow the table. Some kits try a
+crate's edits one after another without numbers; then the first check of a crate's edits counts as the seed.
 
-If memory allows, each check gets one job, and as many run as there are processors (`RT_JOBS`). Otherwise `rt` gives up to four jobs to a
-proof that runs alone, and each of them reads all libraries below it.
+If memory allows, each check gets one job, and as many run as there are processors (`RT_JOBS`). Otherwise `rt` gives up to four jobs to
+a proof that runs alone, and each of them reads all libraries below it.
 
-`rt ci` has no option to leave the edits out, so the shorter run loads `rt` and empties its list of edits. With a kit in which that list has
-another name, it tries the edits too.
+`rt ci` has no option to skip the edits, so the shorter run loads `rt` and empties its list of edits. If that list has another name in
+a kit, the run tries the edits too.
 
-After a run without failures, the libraries left in out/ are marked with the sum by which `rt` knows a library. The firmware and the
-library for C, which later parts of ./test build, then need no second proof of the crates below them. A library whose sources changed
-meanwhile gets no mark.
+After a run without failures, the libraries left in out/ are marked with the sum by which `rt` identifies a library. The firmware and
+the library for C, which later parts of ./test build, then need no second proof of the crates below them. A library whose sources
+changed meanwhile gets no mark.
 """
 import os
 import shutil
@@ -38,7 +38,7 @@ import rtlib  # noqa: E402
 # The number of slowest edits that are listed after the table.
 DEAREST = 20
 
-# Runs `rt ci` with no must-fail edits. The argument is the path of `rt`.
+# Runs `rt ci` without must-fail edits. The argument is the path of `rt`.
 WITHOUT_EDITS = """
 import importlib.machinery, importlib.util, sys
 loader = importlib.machinery.SourceFileLoader("rt", sys.argv[1])
@@ -48,12 +48,12 @@ rt.edits_of = lambda crate: ([], [])
 sys.exit(rt.main(["ci"]))
 """
 
-# The memory for each check of one job. The one that took most had 3.6 GB, four at a time 7.7 (28 November 2026).
+# The memory for each check with one job. The largest check took 3.6 GB, and four at a time 7.7 GB (28 November 2026).
 ROOM = 4 << 30
 
 
 def processors():
-    """How many processors there are to use, as `rt` counts them: fewer by the quota of a control group."""
+    """Returns the number of usable processors, as `rt` counts them: fewer if a control group has a quota."""
     found = len(os.sched_getaffinity(0))
     for file, period in getattr(rtlib, "QUOTAS", ()):
         quota, period = rtlib.number_in(file, r"^(\d+)"), rtlib.number_in(*period)
@@ -63,7 +63,7 @@ def processors():
 
 
 def free():
-    """The memory that is free, in bytes, under the limit of a control group too."""
+    """Returns the free memory in bytes, within the limit of a control group."""
     found = [1024 * (rtlib.number_in("/proc/meminfo", r"MemAvailable:\s+(\d+)") or 0)]
     for limit, held in getattr(rtlib, "GROUPS", ()):
         limit, held = rtlib.number_in(limit, r"(\d+)"), rtlib.number_in(*held)
@@ -73,14 +73,14 @@ def free():
 
 
 def surroundings():
-    """The environment of `rt ci`: one job for each check, where there is memory for as many checks as processors."""
+    """Returns the environment of `rt ci`: one job per check if there is memory for as many checks as processors."""
     if "RT_JOBS" in os.environ or free() < ROOM * processors():
         return os.environ
     return {**os.environ, "RT_JOBS": str(processors())}
 
 
 def kind_of(words, room):
-    """What a check proves: a crate, its tests, what its edits begin with (the seed), or an edit, with its number where it has one."""
+    """Returns the kind of a check: a crate's proof, its tests, the seed of its edits, or an edit, with its number if it has one."""
     if room.startswith(str(TOP)):
         return ("tests" if "--test" in words else "proof"), None
     place = os.path.basename(words[words.index("--incremental") + 1]) if "--incremental" in words[:-1] else ""
@@ -90,13 +90,13 @@ def kind_of(words, room):
 
 
 def checks_below(pid):
-    """Each check that runs below this process now: which it is, its crate, its kind, the number of its edit and its processor
-    seconds, with those of processes that it waited for."""
+    """Yields each check that now runs below this process: its identity, its crate, its kind, the number of its edit, and its processor
+    seconds, including those of processes that it waited for."""
     for folder in Path("/proc").iterdir():
         try:
             if not folder.name.isdigit() or f"\nPPid:\t{pid}\n" not in (folder / "status").read_text():
                 continue
-            # the fields after the name, which may have blanks: user and system time from the twelfth on, the start at the twentieth
+            # the fields after the name, which may contain blanks: four times from the twelfth on, the start at the twentieth
             fields = (folder / "stat").read_text().rpartition(")")[2].split()
             words = (folder / "cmdline").read_bytes().decode(errors="replace").split("\0")
             room = os.readlink(folder / "cwd")
@@ -112,8 +112,8 @@ KINDS = ("proof", "tests", "seed", "edits")
 
 
 def in_turn(checks, edits):
-    """The same checks, where those of a crate's edits have no numbers, in the order in which they began: the first is what the
-    others begin with, and behind the last edit the crate is checked as it stands."""
+    """Numbers the checks of a crate's edits in the order in which they began, if they have no numbers. The first is the seed; after the
+    last edit the crate is checked unchanged."""
     found, turns = {}, defaultdict(list)
     for key, took in checks.items():
         (_, began), crate, kind, number = key
@@ -132,7 +132,7 @@ def line_of(name, seconds, edits):
 
 
 def table(seconds, edits, whole):
-    """What each crate took, the dearest first, and all of them together."""
+    """Returns the time of each crate, the slowest first, and of all together."""
     lines = [f"{'processor seconds':24} " + " ".join(f"{kind:>7}" for kind in KINDS) + f" {'(number)':>9}"]
     for crate in sorted(seconds, key=lambda it: -sum(seconds[it].values())):
         lines.append(line_of(crate, seconds[crate], len(edits[crate])))
@@ -143,7 +143,8 @@ def table(seconds, edits, whole):
 
 
 def dearest(checks, edits):
-    """The edits that took most. A check of an edit from nothing has no number, and is known where the crate has one edit."""
+    """Returns the slowest edits. A check of an edit that starts from scratch has no number, and is identified only if the crate has one
+    edit."""
     took = defaultdict(float)
     for (_, crate, kind, number), seconds in checks.items():
         number = 0 if number is None and len(edits[crate]) == 1 else number
@@ -154,12 +155,12 @@ def dearest(checks, edits):
 
 
 def sums():
-    """What `rt` knows each library by: a sum of its sources and of those below it."""
+    """Returns the sum by which `rt` identifies each library: of its sources and of those below it."""
     return {Path(it.folder): it.stamp() for it in rtlib.crates_below(str(TOP))}
 
 
 def mark(before):
-    """Marks the libraries that the gate left, where their sources are as they were."""
+    """Marks the libraries that the gate left if their sources are unchanged."""
     for folder, found in sums().items():
         left = folder / "out" / "rlib"
         if (left / f"{folder.name}.rlib").is_dir() and not (left / "stamp").exists() and before[folder] == found:
@@ -167,7 +168,7 @@ def mark(before):
 
 
 def gate(with_edits):
-    """The command of the gate."""
+    """Returns the command of the gate."""
     rt = os.path.realpath(shutil.which("rt"))
     if with_edits or "def edits_of(" not in Path(rt).read_text():
         return [rt, "ci"]

@@ -1,16 +1,15 @@
 #!/usr/bin/env python3
 """Compares docs/HEADLINE.md and its parts with the sources: the theorems, and every definition of this repository that they rest on.
 
-  tests/headline/run.py            fails where a page is not what the sources say
+  tests/headline/run.py            fails if a page differs from the sources
   tests/headline/run.py --write    writes the pages
 
 The first page has the theorems and a table of the parts, each of which is a page in docs/headline (PARTS). A part has the contracts of
-its functions, and then the definitions and types that they cite and no part before it has, lowest crate first. Definitions are found
-as tests/definitions/run.py finds them.
-What a machine or a monitor shows of itself (SHOWN) is known by the clauses of the functions that look at it; a machine's stand in
-the first part. So its body, and the fields that it reads, are no part of the page. Every other definition is shown whole.
-It also fails where a part, or `boot`, `step` and `run` together, has more names or lines than MOST allows, and where one name
-stands for two things on the page. The last line that is printed is 'N passed, M failed'.
+its functions, followed by the definitions and types that they cite and no earlier part has, lowest crate first. Definitions are found
+as in tests/definitions/run.py. The observable state of a machine or a monitor (SHOWN) is known by the contracts of the functions that
+read it; those of a machine are in the first part. Its body, and the fields that it reads, are therefore not on the page. Every other
+definition is shown in full. The test also fails if a part, or `boot`, `step` and `run` together, has more names or lines than MOST
+allows, and if one name stands for two things on the page. The last line printed is 'N passed, M failed'.
 """
 import importlib.machinery
 import importlib.util
@@ -25,102 +24,103 @@ FOLDER = TOP / "docs" / "headline"
 MACHINE = "hart_sim/src/machine.rt"
 MONITOR = "monitor_core/src/steps.rt"
 PARTS = [
-    ("The headline", "What holds after boot and any list of events.", [("hart_sim/src/laws.rt", "headline_law")]),
-    ("What each event keeps", "What an event on any hart is answered, and which bytes stay.", [("hart_sim/src/laws.rt", "step_law")]),
-    ("A step", "What boot makes, and what each event does.", [(MACHINE, "boot"), (MACHINE, "step")]),
-    ("A call", "What the monitor answers to a call or an interrupt, and what it leaves.", [(MONITOR, "serve"), (MONITOR, "interrupt")]),
-    ("A report", "What is read and written where a trace is run.", [("hart_sim/src/trace_run.rt", "run")]),
-    ("The firmware", "What holds after any list of traps that the firmware's loop served.", [("trap_server/src/laws.rt", "firmware_law")]),
-    ("A board", "What holds after any list of events on a board that the firmware runs on.", [("board/src/laws.rt", "board_law")]),
-    ("The model on a board", "How each run of the model is a run of such a board.", [("board/src/laws.rt", "model_law")]),
+    ("The headline", "The properties of a machine after boot and any list of events.", [("hart_sim/src/laws.rt", "headline_law")]),
+    ("Each event", "The answer to an event on any hart, and the bytes that stay.", [("hart_sim/src/laws.rt", "step_law")]),
+    ("A step", "The booted machine, and the effect of each event.", [(MACHINE, "boot"), (MACHINE, "step")]),
+    ("A call", "The monitor's answer to a call or an interrupt, and its state afterwards.", [(MONITOR, "serve"), (MONITOR, "interrupt")]),
+    ("A report", "The bytes read and written when a trace is run.", [("hart_sim/src/trace_run.rt", "run")]),
+    ("The firmware", "The properties after any list of traps that the firmware's loop served.", [("trap_server/src/laws.rt", "firmware_law")]),
+    ("A board", "The properties of a board that runs the firmware, after any list of events.", [("board/src/laws.rt", "board_law")]),
+    ("The model on a board", "Each run of the model is a run of such a board.", [("board/src/laws.rt", "model_law")]),
 ]
-# The theorems, whose contracts are on the first page, each with the part that it stands in.
+# The theorems, whose contracts are on the first page, each with its part.
 THEOREMS = [("hart_sim/src/laws.rt", "headline_law"), ("trap_server/src/laws.rt", "firmware_law"), ("board/src/laws.rt", "board_law")]
-# The functions that look at a machine: what they answer is all that is to be known of `state_of`, `kept_of` and `bank_on`.
+# The functions that read a machine: their results are all that is known of `state_of`, `kept_of` and `bank_on`.
 OBSERVERS = [(MACHINE, name) for name in ("harts", "world", "registers", "registers_of", "marked", "byte", "is_written", "table", "bank")]
-# The most names and lines of each part, and of all that `boot`, `step` and `run` rest on. They may shrink; where one grows, look for what it says twice.
+# The maximal number of names and lines of each part, and of all that `boot`, `step` and `run` rest on. They may shrink;
+# if one grows, look for redundancy.
 MOST = {1: (87, 395), 2: (44, 262), 3: (48, 246), 4: (44, 240), 5: (69, 384), 6: (95, 510), 7: (70, 480), 8: (8, 69), "together": (253, 1320)}
-# What those functions show, and no definition says: the state of a machine and of a monitor, the tables that they keep, a machine's banks.
+# Known only by those functions, not by a definition: the state of a machine and of a monitor, their tables, and a machine's banks.
 SHOWN = {"hart_sim": {"state_of", "kept_of", "bank_on"}, "monitor_core": {"state_of", "kept_of", "worlds_of", "marks_of", "list_of"}}
-# A part speaks of these, and says what follows from them: what they are is in a later part.
+# Names that a part uses, and whose definitions are in a later part.
 LATER = {1: {"Run", "Happens", "IsBooted", "Promises", "IsLayout"}, 2: {"Step"}, 3: {"DoesCall", "Interrupts"}}
-# A type is shown on lines of at most so many characters.
+# The maximal width of a type's declaration.
 WIDTH = 120
 OPENING = """# The headline, and everything it rests on
 
 `tests/headline/run.py --write` makes this page and its parts from the sources, and the gate compares them. Every contract shown here is
-proved. To believe one, read the definitions that it cites, not its proof; each part shows the definitions that no earlier part has.
+proved. To trust one, read the definitions that it cites, not its proof; each part shows the definitions that no earlier part has.
 Words that are not defined here belong to the kit: numbers, lists, `Option`, equality, SHA-256.
 
 ## How to read a clause
 
-The sources are Rattle: Rust in which a function has a contract, and the prover shows that its body meets it. A definition in `specs/` is
-what a reader has to trust; nothing in `proofs/` has to be trusted or read. The body of a definition is a relation or a record whose fields
+The sources are Rattle: Rust in which a function has a contract, and the prover shows that its body meets it. A reader has to
+trust the definitions in `specs/`; nothing in `proofs/` has to be trusted or read. A definition is a relation, or a record whose fields
 are facts that all hold.
 
 | Form | Meaning |
 |---|---|
-| `requires {{ .. }}` | what the caller must establish before the call |
+| `requires {{ .. }}` | a condition that the caller must establish |
 | `ensures NAME {{ .. }}` | a *clause*, which holds after every call; documents and edits cite it by NAME |
 | `x.old`, `x.new` | the value of a `&mut` argument before and after the call |
 | `x.now` | the value of a `&` argument |
 | `result` | the function's result |
 | `OnOk r P`, `OnErr r P` | if r is an `Ok` (an `Err`), then P |
-| `IfOk r (λ v. P)`, `IfErr`, `IfSome` | the same, where P speaks of the value v inside |
+| `IfOk r (λ v. P)`, `IfErr`, `IfSome` | the same, where P is about the value v inside |
 | `MatchResult r (λ v. P) (λ e. Q)` | P for the value of an `Ok`, Q for the error of an `Err` |
 | `P × Q`, `P ⊎ Q` | P and Q, P or Q |
 | `P → Q`, `P ↔ Q` | if P then Q, P iff Q |
 | `(x : T) → P`, `(x : T) × P` | P for every x of T, P for some x of T |
 | `ℕ`, `List T` | numbers without a bound, lists of any length |
-| a method of an `impl` without clauses | it has those of its trait; the `ghost` lines of the `impl` define the trait's names |
+| a method of an `impl` without clauses | it has its trait's clauses; the `ghost` lines of the `impl` define the trait's names |
 | `pub ghost f: {{ .. }}` | a fact that a struct carries; it does not exist at run time |
 
 The bytes of readers and writers appear only in clauses: `remaining` are the bytes still to come, `contents` those that were written. Each is
-an `Option`; it is `None` if the bytes are unknown, as for a file, a terminal or a pipe. `Consumes old new bytes` and `Appends old new bytes`
+an `Option`, which is `None` if the bytes are unknown, as for a file, a terminal or a pipe. `Consumes old new bytes` and `Appends old new bytes`
 relate them before and after; they say nothing about a device whose bytes are unknown. `failures` and `stalls` count failed calls and
-writes that took no bytes, for every device. `run`, `perform` and `serve_traps` work for any reader and writer, so what is proved for bytes in
-memory is tested, not proved, for real files and streams.
+writes that took no bytes, for every device. `run`, `perform` and `serve_traps` work for any reader and writer; their effect on bytes is
+proved for readers and writers in memory, and tested for real files and streams.
 
 ## The theorems
 
 There are three, over one monitor (`monitor_core`), which the model and the firmware both call.
 
-1. **The model** (`headline_law`, part 1) is about the modelled machine of `hart_sim`: every machine that `Machine::boot` made and to which
-   `step` and `run` made events happen. `After` is a list of such events, each with `Happens`; `Happens` is what the clauses of `step` state for
-   one event. The code establishes it: `boot` and `step` each have a clause `after` (part 3).
-2. **The firmware** (`firmware_law`, part 6) is about every list of traps that `serve_traps` of `trap_server` read and answered. It states the
+1. **The model** (`headline_law`, part 1) covers every machine of `hart_sim` that `Machine::boot` made and on which `step` and `run` performed
+   events. `After` is a list of such events, each with `Happens`, which states the clauses of `step` for one event. The code
+   establishes it: `boot` and `step` each have a clause `after` (part 3).
+2. **The firmware** (`firmware_law`, part 6) covers every list of traps that `serve_traps` of `trap_server` read and answered. It states the
    entries in the last list that was answered for each world and in the list that each hart loaded last; the pages that are read or
    zeroed; how register sets change, for all sets that the harts may keep; and the control words of an enclave that is entered. The code
    establishes it in the clauses `all` and `early` of `serve_traps`.
-3. **A board** (`board_law`, part 7) is about memory and harts around that loop, and so about what worlds do between traps. Its memory is
-   RAM outside the monitor's pages: devices and the monitor may change every other byte at any time. What the code around the loop must
-   do is a premise, in one definition for each event. For a trap that the loop serves it is `DoesTrap`: lists of entries, pages and
+3. **A board** (`board_law`, part 7) covers memory and harts around that loop, and so what worlds do between traps. Its memory is
+   RAM outside the monitor's pages: devices and the monitor may change every other byte at any time. The duties of the code around
+   the loop are a premise, in one definition for each event. For a trap that the loop serves it is `DoesTrap`: lists of entries, pages and
    registers are kept, loaded, read and zeroed as the answer says, and nothing else of memory and registers changes. A trap that a hart
    serves without the loop (`DoesAside`) changes a0, a1 and the program counter of a host that called, or enters the host's handler; an
    enclave that is interrupted for a fence keeps all of its registers. A host may stop its hart (`DoesPark`) and start another
    (`DoesStart`). A control register holds what was written as far as its bits can be written (`held`); `CanConfine` lists the bits that
-   must be able to be zero, and why. QEMU's hart is an instance (`crates/library_tests`). Between traps a host may write any control
-   word, and an enclave, in user mode, only its status (`MayWrite`). Until a new enclave is entered no world can change its pages
-   (`pages_law`). A board whose traps take time has the same runs: other harts run while pages are zeroed, and between the change of lists
-   and the answer, while the pages of a new enclave are read (`time_law`). `answers_law` bounds the words of each answer.
+   must be able to be zero, and why. `crates/library_tests` proves that QEMU's hart is an instance, and what fails without each of these
+   bits and without a duty. Between traps a host may write any control word, and an enclave, in user mode, only its status (`MayWrite`).
+   Until a new enclave is entered, no world can change its pages
+   (`pages_law`). A board whose traps take time has the same runs: other harts run while pages are zeroed, while stopped harts load their
+   lists one by one, and while the pages of a new enclave are read (`time_law`). `answers_law` bounds the words of each answer.
 
 The first and the third agree: each run of the model is a run of a board (`model_law`, part 8), access by access and call by call, with the same
-table, worlds, memory and registers at the end. What part 7 says about every board therefore holds for the model.
+table, worlds, memory and registers at the end. Therefore the facts of part 7 also hold for the model.
 
-`serve_traps` is generic over its reader and writer, and its clauses speak of their known bytes. The firmware lends it standard input and
+`serve_traps` is generic over its reader and writer, and its clauses are about their known bytes. The firmware lends it standard input and
 output, whose bytes the proof does not know. A generic function cannot behave differently for them, so the bytes that the firmware's C passes
 to the loop and receives from it are such a list of traps.
 
 The theorems do not cover:
 
 - the C and assembly around the loop (`firmware/`), which save and restore registers, load entries and zero pages as the answers say. The
-  board theorem takes this as its premise. `tests/machine_code` proves most of it on the machine code that boots, and its table says
-  which part by which fact; the rest is tested on QEMU. For these facts a reader trusts z3, the executor (compared with QEMU) and
-  the loader of the ELF, and no compiler;
+  board theorem takes this as its premise. `tests/machine_code` proves most of it on the machine code that boots, and its table lists
+  the fact for each part; the rest is tested on QEMU. For these facts a reader trusts z3, the executor (compared with QEMU) and
+  the loader of the ELF, but no compiler;
 - the build for RV64, a retargeted build of a proved module, which is tested on QEMU;
 - devices whose bytes are unknown, as explained above;
-- anything else that a real hart does: caches, side channels, devices that access memory by themselves, time. `SECURITY.md` lists what
-  else no board has.
+- anything else that a real hart does: caches, side channels, DMA-capable devices, time (see `SECURITY.md`).
 
 ## The parts
 
@@ -138,7 +138,7 @@ TOGETHER = [(MACHINE, "boot"), (MACHINE, "step"), ("hart_sim/src/trace_run.rt", 
 
 
 def definitions():
-    """The script tests/definitions/run.py, as a module."""
+    """Loads the script tests/definitions/run.py as a module."""
     loader = importlib.machinery.SourceFileLoader("definitions", str(TOP / "tests" / "definitions" / "run.py"))
     made = importlib.util.module_from_spec(importlib.util.spec_from_loader("definitions", loader))
     sys.dont_write_bytecode = True
@@ -150,13 +150,13 @@ READ = definitions()
 
 
 def order():
-    """The place of each crate in crates.txt, lowest first."""
+    """Returns the position of each crate in crates.txt, lowest first."""
     names = re.findall(r"(?m)^(\w+)(?: \w+)?:", (TOP / "crates.txt").read_text())
     return {name: place for place, name in enumerate(names)}
 
 
 def type_of(path):
-    """The file and the name of the Rust type that a path of definitions names, or None."""
+    """Returns the file and the name of the Rust type that a path of definitions names, or None."""
     found = re.match(r"Rattle\.(\w+)\.specs\.declared\.(.+)$", path)
     if not found:
         return None
@@ -169,7 +169,7 @@ def type_of(path):
 
 
 def declared(file, name):
-    """The declaration of a type, without its derives and the comments of its fields."""
+    """Returns the declaration of a type, without its derives and the comments of its fields."""
     text = (CRATES / file).read_text()
     head = re.search(rf"(?m)^(?:pub(?:\(crate\))? )?(?:struct|enum) {name}\b", text)
     if not head:
@@ -183,7 +183,7 @@ def declared(file, name):
 
 
 def parts_of(text):
-    """The parts of a text between its commas, outside all brackets."""
+    """Splits a text at its commas outside all brackets."""
     parts, depth = [""], 0
     for c in text:
         depth += (c in "([{<") - (c in ")]}>")
@@ -195,7 +195,7 @@ def parts_of(text):
 
 
 def folded(text):
-    """A declaration on one line where it fits; otherwise each part that has braces on a line, and other parts filled into lines."""
+    """Formats a declaration on one line if it fits; otherwise each part with braces gets a line, and other parts fill lines."""
     head, brace, body = text.partition("{")
     if not brace:
         return text
@@ -221,7 +221,7 @@ def types_in(text, names):
 
 
 def contract(file, function):
-    """The doc, the head and the clauses of a function, and the names in scope there."""
+    """Returns the doc, the head and the clauses of a function, and the names in scope there."""
     text = (CRATES / file).read_text()
     lines = text.split("\n")
     at = next(i for i, it in enumerate(lines) if re.match(rf"\s*pub fn {function}\b", it))
@@ -237,12 +237,12 @@ def contract(file, function):
 
 
 def is_shown(entry):
-    """Whether a definition is known by the functions that look at it, and not by its body."""
+    """Returns whether a definition is known by the functions that read it and not by its body."""
     return entry["name"] in SHOWN.get(entry["crate"], ())
 
 
 def text_of(entry):
-    """The text of a definition; of one that is shown by functions, its type."""
+    """Returns the text of a definition, or only its type if it is known by functions."""
     if not is_shown(entry):
         return entry["text"]
     lines = entry["text"].split("\n")
@@ -251,7 +251,7 @@ def text_of(entry):
 
 
 def rests_on(specs, roots, known, later):
-    """The definitions and types that the contracts cite, in turn, but those known, and those for later parts."""
+    """Returns the definitions and types that the contracts cite, transitively, except known ones and those for later parts."""
     found, types, todo = set(), set(), []
     for file, function in roots:
         _, clauses, names = contract(file, function)
@@ -276,12 +276,12 @@ def shown(specs, item):
 
 
 def typed(file, name):
-    """What is shown of a type: of a machine and a monitor the name alone."""
+    """Returns the page's text for a type; only the name of a machine or a monitor."""
     return f"pub struct {name} {{ .. }}" if file in (MACHINE, MONITOR) else declared(file, name)
 
 
 def counted(specs, found, types):
-    """How many names these are, and how many lines."""
+    """Returns the number of these names, and of their lines."""
     texts = [typed(*it) for it in types] + [shown(specs, it) for it in found]
     return len(texts), sum(len(it.split("\n")) for it in texts)
 
@@ -304,21 +304,21 @@ def part(specs, number, title, words, roots, known, counts):
     contracts = "\n\n".join(contract(*it)[0] for it in roots if it not in OBSERVERS or number > 1)
     if number == 1:
         looks = "\n\n".join(contract(file, function)[0] for file, function in OBSERVERS)
-        contracts += f"\n```\n\nA machine is known by what these answer:\n\n```rust\n{looks}"
+        contracts += f"\n```\n\nA machine is known by the results of these functions:\n\n```rust\n{looks}"
     names, count = counts[number] = counted(specs, found, types)
-    then = f" In a later part: {', '.join(f'`{it}`' for it in sorted(later))}." if later else ""
-    head = f"# {number}. {title}\n\n{words} {names} names, {count} lines, beside the contracts.{then} Of [the headline](../HEADLINE.md).\n\n```rust\n{contracts}\n```"
+    then = f" Later parts define {', '.join(f'`{it}`' for it in sorted(later))}." if later else ""
+    head = f"# {number}. {title}\n\n{words} {names} names and {count} lines besides the contracts.{then} Part of [the headline](../HEADLINE.md).\n\n```rust\n{contracts}\n```"
     return "\n\n".join([head, *blocks]) + "\n", found | types
 
 
 def file_of(number, title):
-    """The file of a part, below docs/headline."""
+    """Returns the file of a part, below docs/headline."""
     return f"{number}-{title.lower().replace(' ', '-')}.md"
 
 
 def table(counts):
-    """The parts, with what each says, and how much has to be read."""
-    rows = ["| Part | What it says | Names | Lines |", "|---|---|---|---|"]
+    """Returns the table of parts, with the names and lines of each."""
+    rows = ["| Part | Subject | Names | Lines |", "|---|---|---|---|"]
     for number, (title, words, _) in enumerate(PARTS, 1):
         names, lines = counts[number]
         rows.append(f"| [{number}. {title}](headline/{file_of(number, title)}) | {words} | {names} | {lines} |")
@@ -326,7 +326,7 @@ def table(counts):
 
 
 def aliases(specs, found):
-    """What stands on the page under another name than its own: the variants of types, behind a word of their own or by themselves."""
+    """Lists the names that the page writes differently: variants of types, with a prefix or under another name."""
     modules, single = {}, {}
     for item in found:
         if not isinstance(item, str):
@@ -345,11 +345,11 @@ def aliases(specs, found):
                 raise SystemExit(f"headline: {item} says {word} of {path}, which the page has under another name")
     before = ", ".join(f"`{it}.` of {' or '.join(f'`{owner}`' for owner in sorted(modules[it]))}" for it in sorted(modules))
     alone = "; ".join(f"`{it}` is `{single[it]}`" for it in sorted(single))
-    return f"Variants of a type stand behind a word of their own: {before}. {alone}."
+    return f"A prefix marks the variants of a type: {before}. {alone}."
 
 
 def doubles(specs, found):
-    """The names that stand for two things on the page."""
+    """Returns the names that stand for two things on the page."""
     seen, twice = {}, set()
     for item in found:
         name = specs.items[item]["name"] if isinstance(item, str) else item[1]
@@ -359,7 +359,7 @@ def doubles(specs, found):
 
 
 def pages():
-    """The text of each page, by its file; the counts of names and lines; and the names that stand for two things."""
+    """Returns the text of each page, by its file; the counts of names and lines; and the names that stand for two things."""
     specs = READ.Specs()
     known, made, counts = set(), {}, {}
     for number, (title, words, roots) in enumerate(PARTS, 1):

@@ -1,11 +1,11 @@
 #!/usr/bin/env python3
-"""Wrong inputs that a new user writes, each with what the program says of it.
+"""Tests invalid inputs that new users write, each with the program's messages.
 
   tests/inputs/run.py PROGRAM
 
-A row is what stands in a file, and the lines on standard error behind which the program ends. Each row is tried three times: with
-`--hints always` all lines come, with `--hints never` the first alone, and `lint` prints the others, without their `hint: `, with the
-status 1. Nothing is printed otherwise, and no certificate is made. FILE stands for the file's name.
+A row has the content of a file, and the lines on standard error with which the program ends. Each row is tried three times: with
+`--hints always` all lines appear, with `--hints never` only the first, and `lint` prints the others without `hint: `, with status 1.
+Nothing else is printed, and no certificate is written. FILE stands for the file's name.
 The last line is 'N passed, M failed'; any failure makes the status 1.
 """
 import os
@@ -16,11 +16,11 @@ import tempfile
 PROGRAM = os.path.realpath(sys.argv[1])
 MIB = 1 << 20
 
-# A map, the line that is told, and the hints.
+# A map, the error, and the hints.
 MAPS = [
     ("a range without a permission", b"0x80000000 0x1000\n", 1, ["1:18: PERM is wanting; write none, r, rw, x, rx or rwx"]),
     ("a base alone", b"0x80000000\n", 1, ["1:11: SIZE and PERM are wanting; a line is BASE SIZE PERM"]),
-    ("a size with a unit", b"0x80000000 4K rwx\n", 1, ["1:12: SIZE '4K' is no number; write decimal digits, or 0x and hexadecimal digits"]),
+    ("a size with a unit", b"0x80000000 4K rwx\n", 1, ["1:12: SIZE '4K' is no number; write 0x1000"]),
     ("permissions in other letters", b"0 4096 RWX\n0 4096 r-x\n0 4096 xr\n0 4096 None\n", 1, [
         "1:8: PERM 'RWX' is not written so; write rwx",
         "2:8: PERM 'r-x' is not written so; write rx",
@@ -36,7 +36,7 @@ MAPS = [
     ("a base inside a page", b"0x80000800 0x1000 rwx\n", 1, ["1:1: BASE 0x80000800 is not a multiple of 4096; the whole pages are 0x80000000 0x2000"]),
     ("a size below a page", b"0x10000000 0x100 rw\n", 1, ["1:12: SIZE 0x100 is not a multiple of 4096; the whole page is 0x1000"]),
     ("commas", b"0x80000000, 0x1000, rwx\n", 1, ["1:1: BASE '0x80000000,' is no number; write decimal digits, or 0x and hexadecimal digits"]),
-    ("first and last byte", b"0x80000000-0x80000fff rwx\n", 1, ["1:1: BASE '0x80000000-0x80000fff' is no number; a line is BASE SIZE PERM, SIZE in bytes"]),
+    ("first and last byte", b"0x80000000-0x80000fff rwx\n", 1, ["1:1: BASE '0x80000000-0x80000fff' is a range; write 0x80000000 0x1000"]),
     ("a fourth word", b"0x80000000 0x1000 rwx ram\n", 1, ["1:23: a fourth word; a comment begins with #"]),
     ("a fourth word that begins a comment elsewhere", b"0x80000000 0x1000 rwx // ram\n", 1, ["1:23: a fourth word; a comment begins with #"]),
     ("comments of other languages", b"// RAM\n; RAM\n/* RAM */\n", 1, [
@@ -67,7 +67,7 @@ MONITOR = "[monitor]\nbase = 0x80000000\nsize = 0x200000\n"
 RAM = "[[ram]]\nbase = 0x80000000\nsize = 0x8000000\n"
 UART = '[[device]]\nbase = 0x10000000\nsize = 0x1000\nperm = "rw"\n'
 
-# A platform, and the hint behind 'not a platform', with what stands between the file's name and it.
+# A platform, and the hint after 'not a platform', with the text between the file's name and it.
 PLATFORMS = [
     ("five harts", "harts = 5\n" + MONITOR + RAM, ":1:1: harts is 1, 2, 3 or 4"),
     ("hart for harts", "hart = 2\n" + MONITOR + RAM, ":1:1: unknown key 'hart'; the keys are monitor, ram, device, harts and entries"),
@@ -96,7 +96,7 @@ PLATFORMS = [
 
 EVENTS = "write fetch, load, store, reg, ecall or irq"
 
-# A trace on one hart, and the hints of `run`; `judge` is right on the same lines, and has the same hints.
+# A trace on one hart, and the hints of `run`; `judge` refuses the same lines with the same hints.
 TRACES = [
     ("no mode", "load 8 0x80000000\n", ["1:6: M '8' is no mode; write s or u"]),
     ("machine mode", "load m 8 0x80000000\n", ["1:6: M 'm' is machine mode; write s or u"]),
@@ -112,7 +112,7 @@ TRACES = [
         "2:1: ';' is no event; a comment begins with #"]),
 ]
 
-# The same, and the hints of `run` alone.
+# A trace on one hart, and the hints of `run` only.
 HARTS = [
     ("a hart that the platform has not", "@1 irq\n", ["1:1: '@1' is none of the harts; H is below 1"]),
 ]
@@ -120,7 +120,7 @@ HARTS = [
 OF_RV32 = "the line is not understood, but each is as one of RV32; add '--xlen 32'"
 REGISTER = "the line is not understood; write a register and its value, as 'pmpcfg0 0x1f'"
 
-# A listing of registers, the line that is told, and the hint.
+# A listing of registers, the error, and the hint.
 LISTINGS = [
     ("a word of RV32", "pmpcfg0 0x1f\npmpcfg1 0x1f\n", 2, "2:1: " + OF_RV32),
     ("the same beside one of 64 bits", "pmpcfg1 0x1f\npmpcfg0 0x1f1f1f1f1f\n", 1, "1:1: " + REGISTER),
@@ -128,21 +128,21 @@ LISTINGS = [
     ("a value that is none", "pmpcfg0 rwx\n", 1, "1:1: " + REGISTER),
 ]
 
-# A file of more than 1 MiB, and the line and the beginning of the hint that it has.
+# A file of more than 1 MiB, and the error and the beginning of its hint.
 LARGE = (b"#" * 63 + b"\n") * (MIB // 64) + b"\n"
 SOURCE = b"/dts-v1/;\n/ { model = \"a board of a test\"; };\n"
 TOO_LARGE = "pmpmon: map: too large\nhint: map: more than 1048576 bytes; "
-# The line that more than 4096 ranges have, and their hint.
+# The error for more than 4096 ranges, and its hint.
 MANY = "pmpmon: map: too many ranges\n"
 OF_MANY = "hint: map:4097:1: more than 4096 ranges after this line; a map has at most 4096\n"
 
 
 def scattered(count):
-    """A map of single pages, each three pages behind the last."""
+    """Returns a map of single pages, each three pages after the previous one."""
     return b"".join(b"%d 4096 rwx\n" % (i * 12288) for i in range(count))
 
 
-# Files, the words of a command, what it prints, what it says, and its status.
+# Files, the words of a command, its output, its messages, and its status.
 COMMANDS = [
     ("a map of 4097 ranges", {"map": b"".join(b"%d 4096 r\n" % (i * 8192) for i in range(4097))}, "plan map", "",
      MANY + OF_MANY, 2),
@@ -187,7 +187,7 @@ COMMANDS = [
     ("a certificate of 64 MiB", {"map": b"0 4096 r\n", "cert": b"\0" * (64 * MIB)}, "check map cert", "refused 1 BadMagic\n", "", 1),
     ("a platform of more than 1 MiB for lint", {"map.toml": LARGE}, "lint map.toml", "",
      "pmpmon: map.toml: too large\nhint: map.toml: more than 1048576 bytes; a platform has at most 1 MiB\n", 2),
-    # `judge` takes accesses alone, and `lint --trace` takes these lines.
+    # `judge` takes only accesses, and `lint --trace` accepts these lines.
     ("an interrupt for judge", {"map": b"0 4096 r\n", "regs": b"\n  irq # a tick\n"}, "judge map regs", "",
      "pmpmon: regs: line 2 is not understood\nhint: regs:2:3: 'irq' is an event of run; judge takes accesses alone\n", 2),
     ("other events for judge", {"map": b"0 4096 r\n", "regs": b"reg x1 1\nload s 8 0\necall 1\n"}, "judge map regs", "",
@@ -217,7 +217,7 @@ COMMANDS = [
     ("Smepmp", {"map": b"0 4096 r\n", "regs": b"mseccfg 0x8\n"}, "audit map regs",
      "mseccfg 0x0000000000000008: no verdict, bit 3 is not known\n", "", 1),
     ("registers as gdb shows them", {"map": b"0 0x100000000000000 rwx\n", "regs": b"pmpaddr0       0xffffffffffffffff\t-1\npmpcfg0        0x1f\t31\n"},
-     "audit map regs", "means the map: 1 entry where 1 is enough\n", "", 0),
+     "audit map regs", "means the map: 1 entry; fewest NA4/NAPOT entries: 1\n", "", 0),
 ]
 
 passed = failed = 0
@@ -239,13 +239,13 @@ def put(name, content):
 
 
 def tried(words):
-    """What a command prints, what it says on standard error, and its status."""
+    """Runs a command and returns its output, its messages, and its status."""
     done = subprocess.run([PROGRAM, *words.split()], stdin=subprocess.DEVNULL, capture_output=True, timeout=60)
     return done.stdout.decode(), done.stderr.decode(), done.returncode
 
 
 def wrong(name, file, content, told, hints, command, lint):
-    """An input at fault: with hints, without them, and what `lint` says."""
+    """Checks an invalid input: with hints, without them, and with `lint`."""
     put(file, content)
     line = f"pmpmon: {file}: {told}\n"
     lines = [f"{file}{':' if hint[0].isdigit() else ''}{hint}\n" for hint in hints]
@@ -258,7 +258,19 @@ def wrong(name, file, content, told, hints, command, lint):
         note(got == want and not os.path.exists("none.cert"), f"{name}: {words}", got)
 
 
+def costs_of_many_lines():
+    """Checks that `show --costs` evaluates fewer lines if the others are many, so that it ends soon."""
+    lines = 62_369
+    put("many.map", "".join(f"{number % 2000 * 8192} 4096 r\n" for number in range(lines)))
+    out = tried("show many.map --costs")[0].splitlines()
+    evaluated = (1 << 19) // lines
+    costs = [f"without line {line}: 2000 entries" for line in range(1, evaluated + 1)]
+    left = f"lines after these that are not looked at: {lines - evaluated}"
+    note(out[-evaluated - 1:] == [*costs, left], "the costs of 62,369 lines: show many.map --costs", out[-evaluated - 1:])
+
+
 def main():
+    costs_of_many_lines()
     put("right.map", "0x80000000 0x8000000 rwx\n")
     put("right.toml", MONITOR + RAM)
     put("right.trace", "load s 8 0x80200000\n")
@@ -283,7 +295,7 @@ def main():
         for file, content in files.items():
             put(file, content)
         got = tried(words + " --hints always")
-        # Behind a fault of the command line stands the usage of the subcommand.
+        # The usage of the subcommand follows an error of the command line.
         right = got[1].startswith(told + "\nUsage: ") if told.startswith("error: ") else got[1] == told
         note(right and (got[0], got[2]) == (printed, status), f"{name}: {words}", got)
 

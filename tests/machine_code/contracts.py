@@ -6,7 +6,6 @@ PMP = (0x3a0, 0x3a2, *range(0x3b0, 0x3c0))
 MIP, FCSR, STIMECMP = 0x344, 3, 0x14d
 # satp, mie, scounteren, senvcfg, hstatus, medeleg, mideleg: words 1 to 7 of control words.
 CONTROL = {"satp": 0x180, "mie": 0x304, "scounteren": 0x106, "senvcfg": 0x10a, "hstatus": 0x600, "medeleg": 0x302, "mideleg": 0x303}
-WAITS = "it waits for other harts, which tests/on_hart/interleavings.py models"
 TO_HANDLER = (0x141, 0x142, 0x143, 0x600)
 
 
@@ -46,7 +45,9 @@ def contracts_of(layout):
     changes = [out, stale, *asked, ("host_bank", 0, None)]  # the last where the hart stands still: by the hart that stopped it
     served = [("worlds", world.action, layout.action.size_of), *changes, ("worlds", world.fences_asked, 4),
               ("register_sets", registers.x + 80, 16), ("register_sets", registers.pc, 8)]
+    heap = [(it, 0, 8) for it in ("heap_calls", "heap_blocks", "heap_most")] + [("kept", 0, None)]
     return {
+        "take": Contract(1, [*heap, ("fresh", layout.block.__dict__["class"], 8)]),
         "memset": Contract(3, [block], returns=lambda to, value, n: to),
         "memcpy": Contract(3, [block], returns=lambda to, source, n: to),
         "is_worlds": Contract(1),
@@ -63,17 +64,16 @@ def contracts_of(layout):
         "control_to_handler": Contract(1, [("register_sets", registers.pc, 8)], (MSTATUS, *TO_HANDLER)),
         "registers_change": Contract(2, [("register_sets", 0, None)], returns=lambda written, answer: written),
         "change_lists": Contract(1, [("host_bank", 0, None), ("enclave_banks", 0, None), stale, ("stopping", 0, 8)], (MIP,)),
-        "stop_harts": Contract(1, [("stopping", 0, 8)], reason=WAITS),
+        "stop_harts": Contract(1, [("stopping", 0, 8)]),
         "load_bank": Contract(1, [], PMP),
         "take_requests": Contract(1, asked, (MIP,)),
-        "stand_still": Contract(1, changes, (MIP,), reason=WAITS),
+        "stand_still": Contract(1, changes, (MIP,)),
         "load_changes": Contract(1, changes, (*PMP, MIP)),
         "host_timer_at": Contract(1, [], (MIP, STIMECMP)),
         "host_timer_came": Contract(0, [], (MIP,)),
-        "fence_harts": Contract(2, [("worlds", world.requests, 4), ("worlds", world.fences_asked, 4), ("worlds", world.fences_made, 4)],
-                                reason=WAITS),
+        "fence_harts": Contract(2, [("worlds", world.requests, 4), ("worlds", world.fences_asked, 4), ("worlds", world.fences_made, 4)]),
         "interrupt_harts": Contract(1, [("worlds", world.requests, 4)], (MIP,)),
-        "put_char": Contract(1, reason="it waits for the serial port, and writes to it alone"),
+        **{it: Contract(1, reason="it waits for the serial port, and writes to it alone") for it in ("put_char", "put", "put_number")},
         "serve_alone": Contract(1, served, (MSTATUS, *TO_HANDLER, MIP, STIMECMP, *PMP)),
         "next_trap": Contract(1, reason="the hart runs a world here: any trap may come"),
         "read_page": Contract(1, [("next_page", 0, 8), block]),

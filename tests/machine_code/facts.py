@@ -7,9 +7,11 @@ import facts_heap
 import facts_memory
 import facts_reset
 import facts_stack
+import facts_start
 import facts_traps
+import facts_waits
 import facts_worlds
 
-SUBJECTS = (facts_traps, facts_entries, facts_worlds, facts_frames, facts_alone, facts_memory, facts_reset, facts_harts, facts_heap,
-            facts_stack)
+SUBJECTS = (facts_traps, facts_entries, facts_worlds, facts_frames, facts_alone, facts_memory, facts_reset, facts_harts, facts_waits, facts_heap,
+            facts_start, facts_stack)
 PROOFS = [proof for subject in SUBJECTS for proof in subject.PROOFS]

@@ -2,7 +2,7 @@
 import z3
 
 from facts_frames import platform_of
-from proof import A0, MIP, MOST_HARTS, var
+from proof import A0, MIP, MOST_HARTS, TIME, var
 from rv64 import Space, bv
 
 STIP, SSIP = 1 << 5, 1 << 1  # of mip
@@ -91,8 +91,8 @@ def timer_set(p):
 
 
 def timer_came(p):
-    """host_timer_came does nothing before the hart's time in the CLINT has come. Then it turns that timer off and sets the host's timer
-    interrupt."""
+    """host_timer_came looks at the time and at the hart's time in the CLINT. Before that has come it does nothing; then it turns that timer off
+    and sets the host's timer interrupt."""
     p.m.add(Space("compare", CLINT_COMPARE, 8 * MOST_HARTS, device=True))
     state = p.begin("host_timer_came")
     for end in p.run(state):
@@ -100,6 +100,8 @@ def timer_came(p):
         stores = [it for it in end.log if it[:2] == ("store", "compare")]
         changed = [it for it in end.log if it[:2] == ("csr", MIP)]
         p.fact(end, len(stores) == len(changed) < 2, "both or neither")
+        now, due = ([it for it in end.log if it[:2] == words] for words in (("read", TIME), ("load", "compare")))
+        p.fact(end, len(now) == len(due) == 1 and z3.And(bv(due[0][3] // 8) == p.hart, z3.UGE(now[0][2], due[0][4]) == z3.BoolVal(bool(stores))), "when")
         if stores:
             p.fact(end, z3.And(bv(stores[0][3] // 8) == p.hart, stores[0][4] == -1), "the timer is off")
             p.fact(end, z3.And(changed[0][2] == STIP, z3.BoolVal(changed[0][3] == "s")), "the host's interrupt")

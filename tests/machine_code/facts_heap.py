@@ -3,7 +3,7 @@ bytes that has its class c < 40 and 16 << c bytes behind it; and the list kept[c
 a call keeps it, so for every sequence of calls blocks are disjoint and within the arena."""
 import z3
 
-from proof import A0, var
+from proof import A0, RA, var
 from rv64 import Failed, Space, bv
 
 CLASSES = 40
@@ -31,8 +31,7 @@ def block_taken(p):
     reused = [p.m.add(Space(f"reused{n}", first[n], layout.size_of, writable=False)) for n in range(CLASSES)]
     state.path += [z3.ULE(word["heap_most"], word["arena_size"]), z3.ULE(word["arena_size"], 1 << 48), first[CLASSES] == 0]
     for end in p.run(state):
-        p.keeps_abi(end)
-        p.csrs_only(end)
+        p.keeps_contract(end)
         p.fact(end, p.now(end, heap["heap_calls"], 0) == word["heap_calls"] + 1, "the calls")
         if end.x[A0].eq(bv(0)):
             p.writes_only(end, (heap["heap_calls"], bv(0), (0,)))
@@ -76,6 +75,66 @@ def block_given_back(p):
         p.writes_only(end, (heap["kept"], kind, (0,)), (header, bv(0), (layout.next,)), (heap["heap_blocks"], bv(0), (0,)))
 
 
+def block_asked(p):
+    """rattle_alloc is take, of its first argument, or of its second one if the first is zero: it jumps there with the stack and the return
+    address of its caller, and has changed no memory and no control register."""
+    heap_of(p)
+    state = p.begin("rattle_alloc", var("bytes"), var("align"))
+    p.m.ends["take"] = bv(p.address("take"))
+    for end in p.run(state):
+        p.fact(end, end.end == "take", "it goes to take")
+        p.fact(end, end.x[A0] == z3.If(var("bytes") == 0, var("align"), var("bytes")), "how many bytes")
+        p.fact(end, end.x[RA] == p.old.x[RA], "the return address")
+        p.keeps_abi(end)
+        p.csrs_only(end)
+        p.writes_only(end)
+
+
+def block_grown(p):
+    """rattle_realloc, for every block of the heap: if the block is large enough it is returned, and nothing changes. Otherwise the result is
+    take's. If take refuses, nothing else changes, so the caller keeps the block. If it returns a block, memcpy copies to it as many
+    bytes as the old block had, or as are wanted if those are fewer, and then the old block is given back as rattle_dealloc does."""
+    layout = p.layout.block
+    header = p.room("header", layout.size_of + 16)
+    kind, had, bytes_, align = p.first(header, layout.__dict__["class"]), var("had"), var("bytes"), var("align")
+    heap = heap_of(p, kind)
+    at = header.base + layout.size_of
+    state = p.begin("rattle_realloc", at, had, bytes_, align)
+    state.path.append(z3.ULT(kind, CLASSES))
+    ok, got = var("ok"), var("got")
+
+    def taken(state, wanted):
+        state.x[A0], state.x[A0 + 1] = ok, got
+        state.log.append(("has", p.now(state, heap["kept"], 0, index=kind), p.now(state, heap["heap_blocks"], 0)))
+    p.assume("take", taken)
+    p.assume("memcpy")
+    wanted = z3.If(bytes_ == 0, align, bytes_)
+    is_room = z3.ULE(wanted, bv(16) << kind)
+    for end in p.run(state):
+        calls = [it[1] for it in end.log if it[0] == "call"]
+        p.keeps_abi(end)
+        p.csrs_only(end)
+        p.fact(end, is_room == z3.BoolVal(not calls), "whether the block is large enough")
+        if not calls:
+            p.fact(end, z3.And(end.x[A0] == 1, end.x[A0 + 1] == at), "the block is returned")
+            p.writes_only(end)
+            continue
+        p.fact(end, z3.And(end.x[A0] == ok, end.x[A0 + 1] == got), "the result is that of take")
+        is_copied = calls[1:] == ["memcpy"]
+        p.fact(end, (ok != 0) == z3.BoolVal(is_copied), "whether it copies")
+        p.calls_are(end, [("take", wanted)] + [("memcpy", got, at, z3.If(z3.ULT(had, bytes_), had, bytes_))] * is_copied)
+        stores = [it for it in end.log if it[0] == "store" and it[1] != "stack"]
+        if not is_copied:
+            p.fact(end, not stores, "nothing else changes")
+            continue
+        before = end.log.index(next(it for it in end.log if it[:2] == ("call", "memcpy")))
+        p.fact(end, all(end.log.index(it) > before for it in stores), "the block is given back after it is copied")
+        p.fact(end, sorted(it[1] for it in stores) == ["header", "heap_blocks", "kept"], "what it writes")
+        p.fact(end, p.now(end, heap["kept"], 0, index=kind) == header.base, "the first of its list")
+        first, blocks = next(it[1:] for it in end.log if it[0] == "has")
+        p.fact(end, z3.And(p.now(end, header, layout.next) == first, p.now(end, heap["heap_blocks"], 0) == blocks - 1), "those after it")
+
+
 def heap_begun(p):
     """begin_heap makes the heap empty: no list has a block, heap_most is zero, and the arena is the one that is passed, or the monitor's own if
     none is."""
@@ -92,4 +151,4 @@ def heap_begun(p):
         p.writes_only(end, (heap["kept"], None, (0,)), *[(heap[it], bv(0), (0,)) for it in ("heap_most", "arena", "arena_size")])
 
 
-PROOFS = [block_taken, block_given_back, heap_begun]
+PROOFS = [block_taken, block_asked, block_given_back, block_grown, heap_begun]

@@ -1,5 +1,6 @@
 """Facts of memory.c: memset and memcpy."""
 import z3
+from z3 import z3util
 
 from proof import A0, SAVED_REGISTERS, bits_of, var
 from rv64 import Failed, Space, bv
@@ -15,7 +16,8 @@ class Blocks:
     """A run of a function that writes a block, over all its loops. At the head of a loop `done` bytes are done: from the first one on, or
     from the last one downwards. A round does the next bytes and nothing else; so by induction the loop does its part of the block."""
 
-    def __init__(self, p, name, byte=None, is_aligned=True):
+    def __init__(self, p, name, byte=None, is_aligned=True, may_overlap=False):
+        self.may_overlap, self.is_sampled = may_overlap, may_overlap and not p.is_exhaustive
         self.q, self.to, self.source, self.n = p.again(), var("to"), var("from"), var("n")
         self.byte = byte
         self.state = self.q.begin(name, self.to, self.source if byte is None else byte, self.n)
@@ -33,8 +35,24 @@ class Blocks:
         """Follows the function from its begin to its return."""
         self.q.start = self.state.copy()
         for end in self.q.m.run(self.state):
-            self.arrive(end, bv(0), False)
+            is_down = self.may_overlap and end.end != "return" and not self.q.m.entails(end.path, self.is_ahead(False))
+            if self.may_overlap and end.end != "return":  # no store of an earlier round reaches a byte that a later load reads
+                self.q.fact(end, self.is_ahead(is_down), "it copies in the wrong direction")
+                end.path = [it for it in end.path if not self.is_order(it)]
+            self.arrive(end, bv(0), is_down)
         return self.q
+
+    def is_order(self, condition):
+        """Whether a condition of a path compares the two places. No later step needs it, and it costs z3 much."""
+        inner = condition.arg(0) if z3.is_not(condition) else condition
+        names = {str(it) for it in z3util.get_vars(inner)}
+        return inner.decl().kind() in (z3.Z3_OP_ULEQ, z3.Z3_OP_UGEQ, z3.Z3_OP_ULT, z3.Z3_OP_UGT) and {str(self.to), str(self.source)} <= names
+
+    def is_ahead(self, is_down):
+        """Whether a copy in this direction reads each byte before it writes there."""
+        if is_down:
+            return z3.UGE(self.to, self.source)
+        return z3.Or(z3.ULE(self.to, self.source), z3.UGE(self.to, self.source + self.n))
 
     def place(self, start, done, is_down):
         return z3.simplify(start + (self.n - done if is_down else done))
@@ -67,7 +85,7 @@ class Blocks:
         """The alignments that a path allows."""
         at, of = self.place(self.to, done, is_down), self.place(self.source, done, is_down)
         for bits in range(8):
-            for source_bits in range(8) if self.byte is None else (0,):
+            for source_bits in (0,) if self.byte is not None else (bits, bits + 3 & 7) if self.is_sampled else range(8):
                 claims = [at & 7 == bits] + ([of & 7 == source_bits] if self.byte is None else [])
                 if self.q.m.check(path, *claims) is not None:
                     yield bits, source_bits
@@ -163,11 +181,11 @@ class Blocks:
                         "each word is read once, before it is written")
 
 
-def block_written(p, name, byte=None):
+def block_written(p, name, byte=None, may_overlap=False):
     """Both kinds of block: those whose places are multiples of eight, and others."""
     widths = set()
     for is_aligned in (True, False):
-        blocks = Blocks(p, name, byte, is_aligned)
+        blocks = Blocks(p, name, byte, is_aligned, may_overlap)
         p.take(blocks.run())
         widths |= blocks.widths
     p.kept.add(name)
@@ -186,4 +204,13 @@ def bytes_copied(p):
     block_written(p, "memcpy")
 
 
-PROOFS = [bytes_set, bytes_copied]
+def bytes_moved(p):
+    """memmove, for every two addresses, of blocks that may overlap, and every number of bytes: the block becomes a copy of what the source had,
+    nothing else is written, and it returns its first argument. A loop that rises runs only if the block begins at or before its source
+    or after its end, and one that falls only if the block begins at or after its source. Each word is read once, in this order and before
+    the word at its place is written, so no store reaches a byte that a later load reads. Of the eight alignments of the source for each
+    of the block two are tried, and all with --exhaustive."""
+    block_written(p, "memmove", may_overlap=True)
+
+
+PROOFS = [bytes_set, bytes_copied, bytes_moved]

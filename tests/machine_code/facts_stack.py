@@ -12,6 +12,11 @@ RECURSIONS = {
     "device_tree::nodes::note_nodes": (65, "the same"),
     "host_tree::walk::put_nodes": (65, "the same"),
     "device_tree::ways::Way::step": (65, "the same: one bus for each level"),
+    "prefix_tree::(map_tree::build_block|overwrite::overwritten_block)": (46, "a block of 2^44 pages has 45 levels"),
+    "entry_planner::(costs::add_costs|placement::place_entries)::<.*>": (46, "the same"),
+    "std_alloc::rc::counts::Rc::drop::<.*>": (46, "the same: only halves of blocks are counted"),
+    "core::slice::sort::unstable::quicksort::<.*>": (34, "a heap sort takes over after twice the logarithm of the length, and the heap holds fewer than 2^16 entries"),
+    "core::slice::sort::pivot::median_of_medians::<.*>": (7, "each level has an eighth of the elements"),
 }
 # Functions that do not return: the bytes after a call of one do not belong to the caller.
 NEVER_RETURN = ("end_board", "end_because", "begin_anew", "power_off", "start_again", "ended", "trapped", "served")
@@ -177,13 +182,13 @@ class Depths:
 
 def stacks_fit(p):
     """Each entry point fits its stack, by the frames and the calls of all code that it can reach: serve_alone and trapped the hart's own
-    stack, and boot the monitor's without its last 8 KiB, whose lowest word `check_stack` looks at. RECURSIONS bounds the functions that
-    call themselves. The proved loop itself is left out: its recursion over maps has no bound here, so check_stack looks before each
-    trap and tests/on_hart measures it."""
+    stack, and boot and the proved loop the monitor's without its last 8 KiB, whose lowest word `check_stack` looks at. RECURSIONS bounds
+    the functions that call themselves."""
     state, depths = p.begin("serve_alone"), Depths(p.m)
     own, guard = p.layout.world.registers - 8, p.address("stack_guard")  # the hart's lowest word is where it gives up reservations
     ends = [p.address(it) for it in ("run_world", "park", "enter_world")]
-    for entry, room in (("serve_alone", own), ("trapped", own), ("boot", p.address("stack_end") - guard)):
+    whole = p.address("stack_end") - guard
+    for entry, room in (("serve_alone", own), ("trapped", own), ("boot", whole), ("pmpmon_serve", whole)):
         depth = depths.total(p.address(entry), ends)
         p.fact(state, depth <= room, f"{entry} takes {depth} bytes of a stack of {room}")
 

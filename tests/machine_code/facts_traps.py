@@ -123,6 +123,9 @@ def monitor_left_and_taken(p):
         stores = [it for it in left.log if it[0] in ("store", "fence") and it[1] != "stack"]
         calls = [n for n, it in enumerate(stores) if it[:2] == ("store", "tickets") and it[3] == names.CALLED]
         p.fact(left, z3.BoolVal(len(calls) == 1 and stores[calls[0] - 1] == stores[calls[0] + 1] == ("fence", 0xff)), "the fences")
+        looks = [n for n, it in enumerate(left.log) if it[:2] == ("load", "tickets") and names.SLEEPERS <= it[3] < names.SLEEPERS + 8]
+        calls = [n for n, it in enumerate(left.log) if it[:2] == ("store", "tickets") and it[3] == names.CALLED]
+        p.fact(left, calls[0] < min(looks) and ("fence", 0xff) in left.log[calls[0]:min(looks)], "it looks for a sleeper after a fence")
         woken = [it for it in left.log if it[:2] == ("store", "clint")]
         sleeper = z3.Extract(7, 0, z3.LShR(sleepers, z3.Extract(31, 0, 8 * (called + 1 & 3))))
         p.fact(left, sleeper == (woken[0][3] // 4 + 1 if woken else 0), "the sleeper is woken")
@@ -137,6 +140,9 @@ def monitor_left_and_taken(p):
             p.fact(end, p.now(end, worlds, layout.is_out, 4, other) == 0, "it is halted")
             p.writes_only(end, (tickets, bv(0), (0,)), (worlds, other, (layout.is_out & ~7, layout.ticket)))
             p.fact(end, p.now(end, worlds, layout.is_wanted, 4, other) == p.now(p.start, worlds, layout.is_wanted, 4, other), "is_wanted")
+            order = [it if it[0] == "fence" else (*it[:2], it[3]) for it in end.log[len(left.log):] if it[0] == "fence" or it[0] in ("load", "store") and it[1] != "stack"]
+            p.fact(end, order[:5] == [("fence", 0x33), ("store", "worlds", layout.is_out), ("load", "tickets", 0), ("store", "tickets", 0), (
+                "store", "worlds", layout.ticket)] and order[5] == ("load", "tickets", names.CALLED), "the order in which it comes for the lock")
             is_called = p.now(p.start, tickets, names.CALLED) == drawn
             if end.end == "return":
                 p.keeps_abi(end)

@@ -5,7 +5,7 @@ from contracts import CONTROL
 from proof import A0, FCSR, MISA, MOST_ENCLAVES, MOST_HARTS, var
 from rv64 import FS, MPP, MPV, MSTATUS, MTVEC, bv
 
-# The bits of mstatus that a world has (firmware/README.md, "Control registers"), and those of its mode.
+# The bits of mstatus that a world has (firmware/DESIGN.md, "Control registers"), and those of its mode.
 STATUS = 1 << 1 | 1 << 5 | 1 << 6 | 1 << 8 | 3 << 9 | 3 << 13 | 3 << 15 | 1 << 18 | 1 << 19 | 3 << 32
 MODE = MPP | MPV
 SSTATUS_OF_TRAP = 1 << 1 | 1 << 5 | 1 << 8  # SIE, SPIE, SPP
@@ -89,27 +89,43 @@ def control_space(p):
     return worlds, lacks
 
 
+def keep_some(p, state):
+    """Each control register keeps some bits of what is written, and the others have fixed values: `ControlRegisters` of Held.antt, for every hart.
+    So the registers of QEMU's hart do, whose mideleg reads 0x1444 and whose hstatus reads 0x200000000 after zero was written."""
+    for number in (MSTATUS, *CONTROL.values()):
+        keep, fixed = p.m.warl[number] = var(f"keep{number:#x}"), var(f"fixed{number:#x}")
+        state.path += [keep & fixed == 0, state.get_csr(number) & ~keep == fixed]
+
+
+def held(p, number, word):
+    """What a register has after a word was written to it (`held_word` of Held.antt). Without `keep_some` it keeps every bit."""
+    keep, fixed = p.m.warl.get(number, (bv(-1), bv(0)))
+    return word & keep | fixed
+
+
 def host_word(p, name):
     return p.layout.world.host + getattr(p.layout.control_words, name)
 
 
 def has_control(p, end, word, lacks, *others):
-    """The registers of the hart have these words, and the other bits of mstatus stay. `word` maps a name to its word."""
+    """The registers of the hart hold these words, and the other bits of mstatus stay. `word` maps a name to its word."""
     status = end.get_csr(MSTATUS)
     are_words = z3.And(word("status") & ~STATUS == 0, word("mode") & ~MODE == 0)
-    p.fact(end, z3.Implies(are_words, z3.And(status & STATUS == word("status"), status & MODE == word("mode"))), "status and mode")
+    p.fact(end, z3.Implies(are_words, z3.And(status & STATUS == held(p, MSTATUS, word("status")) & STATUS,
+                                             status & MODE == held(p, MSTATUS, word("mode")) & MODE)), "status and mode")
     p.fact(end, status & ~(STATUS | MODE) == p.start.get_csr(MSTATUS) & ~(STATUS | MODE), "the other bits of mstatus")
     for n, (name, number) in enumerate(CONTROL.items()):
-        p.fact(end, end.get_csr(number) == z3.If(lacks & 1 << n == 0, word(name), p.start.get_csr(number)), name)
+        p.fact(end, end.get_csr(number) == z3.If(lacks & 1 << n == 0, held(p, number, word(name)), p.start.get_csr(number)), name)
     p.csrs_only(end, MSTATUS, *others, *CONTROL.values())
 
 
 def control_given(p):
-    """control_enter: each control register that the hart has gets its word of the answer, and what it had is kept for the host, with the
+    """control_enter: each control register that the hart has holds its word of the answer, and what it had is kept for the host, with the
     status that is passed. A register that the hart lacks is not accessed. This holds for every set of registers that a hart may lack."""
     worlds, lacks = control_space(p)
     words = p.room("words", p.layout.control_words.size_of, writable=False)
     state = p.begin("control_enter", p.world_at(p.hart), words.base, var("status"))
+    keep_some(p, state)
     state.path.append(z3.ULT(lacks, 128))
     for end in p.run(state):
         p.keeps_contract(end)
@@ -124,9 +140,10 @@ def control_given(p):
 
 
 def control_comes_back(p):
-    """control_leave: each control register that the hart has gets the word that was kept for its host, and the kept words stay."""
+    """control_leave: each control register that the hart has holds the word that was kept for its host, and the kept words stay."""
     worlds, lacks = control_space(p)
     state = p.begin("control_leave", p.world_at(p.hart))
+    keep_some(p, state)
     state.path.append(z3.ULT(lacks, 128))
     for end in p.run(state):
         p.keeps_contract(end)

@@ -18,8 +18,8 @@ MSTATUS, MEPC, MCAUSE, MTVAL, MTVEC = 0x300, 0x341, 0x342, 0x343, 0x305
 KNOWN_CSRS = {0x003, 0x105, 0x106, 0x10a, 0x10c, 0x141, 0x142, 0x143, 0x14d, 0x180, 0x300, 0x301, 0x302, 0x303, 0x304, 0x305, 0x306, 0x30a,
               0x30c, 0x30d, 0x30e, 0x30f, 0x340, 0x341, 0x342, 0x343, 0x344, *range(0x3a0, 0x3b0), *range(0x3b0, 0x3f0), 0x600, 0x747, 0x7a0,
               0x7a1, 0xb02, 0xc01, 0xf11, 0xf12, 0xf13, 0xf14}
-# Devices and time change these: mip, minstret and time. Each read returns a new value.
-VOLATILE_CSRS = {0x344, 0xb02, 0xc01}
+# Devices and time change mip, minstret and time, and the triggers are the hart's own. Each read returns a new value.
+VOLATILE_CSRS = {0x344, 0x7a0, 0x7a1, 0xb02, 0xc01}
 PATIENCE = 4000  # milliseconds; then other methods are tried, without a limit
 Insn = namedtuple("Insn", "name rd rs1 rs2 imm size")
 
@@ -391,6 +391,7 @@ class Machine:
         for address, code in self.patches.items():
             self.text[address - self.text_base:address - self.text_base + len(code)] = code
         self.spaces, self.hooks, self.ends, self.exists = [image.constants], {}, {}, {}
+        self.warl = {}  # of a control register whose fields may be fixed: the bits that keep what is written, and the values of the others
         self.steps, self.covered, self.queries, self.fresh, self.decoded = 0, set(), 0, 0, {}
         self.solver, self.asserted = z3.SimpleSolver(), []
         self.solver.set("timeout", PATIENCE)
@@ -523,7 +524,7 @@ class Machine:
         space, index, offset = self.resolve(state, address, width)
         if space.device:
             value = self.new(space.name, 8 * width)
-            state.log.append(("load", space.name, index, offset))
+            state.log.append(("load", space.name, index, offset, value))
             return value
         if space.content is None:
             state.log.append(("load", space.name, index, offset))
@@ -593,10 +594,15 @@ class Machine:
         if number == 3:
             self.floats_open(state)
         old = self.new(f"csr{number:#x}") if number in VOLATILE_CSRS else state.get_csr(number)
+        if number in VOLATILE_CSRS and insn.rd:
+            state.log.append(("read", number, old))
         operand = bv(insn.rs1) if insn.name[-1] == "i" else state.x[insn.rs1]
         if is_write:
             value = {"w": operand, "s": old | operand, "c": old & ~operand}[insn.name[4]]
             value = z3.simplify(value & 0xff if number == 3 else value)
+            if number in self.warl:
+                keep, fixed = self.warl[number]
+                value = value & keep | fixed
             state.csr[number] = value
             if number == 3:
                 state.csr[MSTATUS] = z3.simplify(state.get_csr(MSTATUS) | FS)

@@ -1,12 +1,17 @@
-"""Compares the two tables of README.md here with the definition of the board, with the image and with the facts.
+"""Compares the two tables of README.md here with the definition of the board, with the image and with the facts, and the functions of the
+model of how harts meet with the facts.
 
 A row of the first names a field of a record of Board.antt, a row of the second a function of the image. Each has facts in its last column,
 as `name`, or says after "not proved:" why it has none.
 """
 import re
+import sys
 from pathlib import Path
 
 HERE = Path(__file__).resolve().parent
+sys.path.append(str(HERE.parent / "on_hart"))
+import interleavings  # noqa: E402
+
 BOARD = HERE.parents[1] / "crates/board/specs/Board.antt"
 RECORDS = ("DoesAccess", "DoesCompute", "DoesWrite", "DoesAside", "DoesPark", "DoesStart", "TrapDuties", "DoesTrap", "ChangesRunning", "ChangesFloats",
            "ChangesControl", "IsBooted")
@@ -58,3 +63,4 @@ def compare(image, facts):
     """Yields what is compared, and its faults."""
     yield "README.md: each premise of the board has a fact or a reason", faults_of("The premises of the board", set(conjuncts()), facts)
     yield "README.md: each function of the image has a fact or a reason", faults_of("The functions of the image", functions(image), facts)
+    yield "interleavings.py: each function of the model has a fact that is proved", [f"{function}: no fact {fact}" for function, fact in interleavings.FACTS.items() if fact not in facts]

@@ -1,16 +1,16 @@
 #!/usr/bin/env python3
-"""The masters of memory that `lint` warns of, against the device trees of QEMU's boards.
+"""Compares the DMA-capable devices that `lint` warns of with the device trees of QEMU's boards.
 
   tests/masters/run.py PROGRAM
 
-`lint` of a platform whose devices have the whole space but a page names each master that it knows. Those of a board have to be
-just the pages of the nodes of its device tree that read and write memory by themselves: on `virt` fw_cfg, virtio and PCIe, with
-its windows; on `sifive_u`, which is an FU540, the DMA controller and Ethernet. QEMU has no FU740, so of that one nothing is
-compared. It wants qemu-system-riscv64 and fdtget; on Debian:
+`lint` names each DMA-capable device that it knows in a platform whose devices cover the whole space except one page. For each board
+these must be exactly the pages of the DMA-capable nodes of its device tree: on `virt` fw_cfg, virtio and PCIe with its windows; on
+`sifive_u`, which is an FU540, the DMA controller and Ethernet. QEMU has no FU740, so that one is not compared. The test requires
+qemu-system-riscv64 and fdtget; on Debian:
 
   apt-get install --no-install-recommends qemu-system-misc device-tree-compiler
 
-Where one of them is missing it says so. The last line that is printed is 'N passed, M failed'.
+It reports which of them is missing. The last line printed is 'N passed, M failed'.
 """
 import re
 import shutil
@@ -39,7 +39,7 @@ KINDS = {
 
 
 def platform():
-    """A platform whose memory is one page, and whose devices have all others."""
+    """Returns a platform whose memory is one page and whose devices cover all others."""
     rest = MIDDLE + PAGE
     ranges = f"monitor = {{ base = {MIDDLE}, size = {PAGE} }}\nram = [{{ base = {MIDDLE}, size = {PAGE} }}]\n"
     for base, end in ((0, MIDDLE), (rest, SPACE)):
@@ -48,7 +48,7 @@ def platform():
 
 
 def joined(ranges):
-    """Ranges by their first byte and their end, each of whole pages, where those that touch are one."""
+    """Rounds ranges, given by their first byte and their end, to whole pages, and joins those that touch."""
     whole = []
     for first, end in sorted((first // PAGE * PAGE, -(-end // PAGE) * PAGE) for first, end in ranges):
         if whole and first <= whole[-1][1]:
@@ -59,22 +59,22 @@ def joined(ranges):
 
 
 def fdtget(*words):
-    """The words that fdtget prints, and none where there is nothing."""
+    """Returns the words that fdtget prints, if any."""
     return subprocess.run(["fdtget", *words], capture_output=True, text=True).stdout.split()
 
 
 def cells(tree, node, key):
-    """The cells of a property, and none where it is not there."""
+    """Returns the cells of a property, if it exists."""
     return [int(cell, 16) for cell in fdtget("-t", "x", tree, node, key)]
 
 
 def wide(pair):
-    """The number of two cells."""
+    """Returns the number in two cells."""
     return pair[0] << 32 | pair[1]
 
 
 def masters_of(board, folder):
-    """The kinds of masters that the device tree of a board has, each with its ranges."""
+    """Returns the kinds of DMA-capable devices in the device tree of a board, each with its ranges."""
     tree = folder / f"{board}.dtb"
     subprocess.run(["qemu-system-riscv64", "-machine", f"{board},dumpdtb={tree}", "-m", "128"], check=True, capture_output=True)
     found = {}

@@ -1,10 +1,10 @@
 #!/usr/bin/env python3
-"""Compares what `measure` prints with two others who measure: examples/linux/digest.py, of ELF files, and `run --measure`, of an
-enclave whose host stored the same bytes. And what digest.py refuses.
+"""Compares the output of `measure` with two other implementations: examples/linux/digest.py, on ELF files, and `run --measure`, on an
+enclave into which a host stores the same bytes. Also tests what digest.py refuses.
 
   tests/measure/run.py PROGRAM
 
-The files are random, of a fixed seed. The last line that is printed is 'N passed, M failed'.
+The files are random, with a fixed seed. The last line printed is 'N passed, M failed'.
 """
 import hashlib
 import random
@@ -22,11 +22,11 @@ TOP = Path(__file__).resolve().parents[2]
 PAGE = 4096
 PLATFORM = "[monitor]\nbase = 0x80000000\nsize = 0x200000\n[[ram]]\nbase = 0x80000000\nsize = 0x8000000\n"
 BASE, SHARED = 0x80200000, 0x80400000
-SHARED_AT = 0x400000  # of enclave.ld
+SHARED_AT = 0x400000  # as in enclave.ld
 
 
 def elf(text, data, pages, entry):
-    """An ELF for RV64 with text, data and shared pages, as enclaves/enclave.ld lays them out."""
+    """Returns an ELF for RV64 with text, data and shared pages, laid out as by enclaves/enclave.ld."""
     offset = 64 + 3 * 56
     header = b"\x7fELF\x02\x01\x01" + bytes(9) + struct.pack("<2HL3QL6H", 2, 243, 1, entry, 64, 0, 0, 64, 56, 3, 0, 0, 0)
     rows = struct.pack("<2L6Q", 1, 5, offset, 0, 0, len(text), pages[0] * PAGE, PAGE)
@@ -36,14 +36,14 @@ def elf(text, data, pages, entry):
 
 
 def measured(program, file, pages, entry):
-    """The digest and the words that `measure` prints."""
+    """Returns the digest and the words that `measure` prints."""
     words = [program, "measure", file, "--text", str(pages[0]), "--data", str(pages[1]), "--shared", str(pages[2]), "--entry", str(entry)]
     lines = subprocess.run(words, check=True, capture_output=True, text=True).stdout.split("\n")
     return lines[0].removeprefix("digest "), [int(line.split()[2], 0) for line in lines[1:5]]
 
 
 def ran(program, folder, image, pages, entry):
-    """The digest that `run --measure` prints of an enclave into whose pages a host stores these bytes."""
+    """Returns the digest that `run --measure` prints for an enclave into whose pages a host stores these bytes."""
     stores = [f"store s 8 {BASE + at:#x} {value:#x}" for at in range(0, len(image), 8) if (value := struct.unpack_from("<Q", image, at)[0])]
     create = f"ecall 0x08454E43 0 {BASE:#x} {pages[0]} {pages[1]} {SHARED:#x} {pages[2]} {entry}"
     (folder / "platform.toml").write_text(PLATFORM)
@@ -53,7 +53,7 @@ def ran(program, folder, image, pages, entry):
 
 
 def compare(program, folder, made, count):
-    """One file: its digest by `measure`, by digest.py, by `run` and by the definition in docs/FORMATS.md."""
+    """Compares the digests of one file: by `measure`, by digest.py, by `run` and by the definition in docs/formats/calls.md."""
     pages = made.randrange(1, 4), made.randrange(1, 3), made.randrange(1, 3)
     entry = 2 * made.randrange(pages[0] * PAGE // 2)
     text, data = made.randbytes(pages[0] * PAGE - made.randrange(PAGE)), made.randbytes(made.randrange(1, 300))
@@ -72,7 +72,7 @@ def compare(program, folder, made, count):
 
 
 def refusals(folder, count):
-    """What digest.py is asked in vain: no monitor would measure it."""
+    """Checks files that digest.py must refuse, because no monitor would measure them."""
     text, data, at = bytes(PAGE), bytes(8), 64 + 56 + 16
     file = elf(text, data, (1, 1, 1), 0)
     rows = {"no words": None, "a file that is cut": file[:100], "data at another place": file[:at] + struct.pack("<Q", 0x8000) + file[at + 8 :]}

@@ -1,21 +1,21 @@
 #!/usr/bin/env python3
-"""Spoils listings of registers and boot logs that are right, and holds that none is misread in silence: `map` answers as it did
-before, or it refuses the text, by its line.
+"""Mutates valid listings of registers and boot logs, and checks that none is silently misread: `map` must answer as before, or refuse
+the text and name the line.
 
   tests/misread/run.py PROGRAM
 
-Each text is spoilt in each of these ways, by a fixed seed: a line is left out, two lines change places, a line comes twice, the
-text ends early, a letter of a name is lost or another one, a byte of noise comes into a line, and the first word of a line gets a
-colour of a terminal. A digit is lost or another one in what gdb prints, and lost in what OpenOCD prints; a line of another hart
-comes between theirs; and an entry of a plan gets the number of another. Some changes leave another listing that is right, and so another answer, which is held to be one that the
-changed text means:
+Each text is mutated in each of these ways, with a fixed seed: a line is deleted, two lines are swapped, a line is duplicated, the text
+is truncated, a letter of a name is deleted or changed, a byte of noise is inserted into a line, and the first word of a line gets a
+terminal colour. A digit is deleted or changed in gdb's output, and deleted in OpenOCD's; a line of another hart is inserted into
+these; and an entry of a plan gets the number of another. Some mutations give another valid listing, and so another answer, which must
+be one that the mutated text means:
 
-- a register's line is left out, so that its register is zero: a listing says nothing of what it lacks, unless it counts its
-  entries, as `plan` does;
-- the last region of a log is left out, or the log ends before it: no line of a log says how many there are;
-- two lines set one register, and change places.
+- a register's line is deleted, so that its register is zero: a listing does not show what it lacks, unless it counts its entries, as
+  `plan` does;
+- the last region of a log is deleted, or the log ends before it: no line of a log states how many there are;
+- two lines that set one register are swapped.
 
-The last line that is printed is 'N passed, M failed'.
+The last line printed is 'N passed, M failed'.
 """
 import random
 import re
@@ -63,7 +63,7 @@ OPENOCD = """===== RISC-V Registers
 (1011) pmpaddr2 (/64): 0x00000000200801ff
 (1012) pmpaddr3 (/64): 0x003fffffffffffff
 """
-# What may come between the letters of a name, or in the place of one.
+# Bytes that may be inserted between the letters of a name, or replace one.
 NOISE = [b"\xfe", b"\x00", b"\x1b", b"\x80", b"\x7f"]
 COLOUR = b"\x1b[32m"
 # The first letters of a name.
@@ -71,7 +71,7 @@ NAME = re.compile(rb"(?<![0-9A-Za-z(,])[A-Za-z]{3}")
 
 
 def plan_of(program):
-    """The listing that `plan` prints of a map."""
+    """Returns the listing that `plan` prints for a map."""
     return subprocess.run([program, "plan", TOP / "examples/qemu-virt.map"], check=True, capture_output=True).stdout
 
 
@@ -96,7 +96,7 @@ def cut(lines, made):
 
 
 def spoilt(lines, made, change):
-    """A line with a change at one letter of it."""
+    """Returns a line with one letter changed."""
     at = made.choice([i for i, line in enumerate(lines) if NAME.search(line)])
     place = made.choice([it.start() + made.randrange(3) for it in NAME.finditer(lines[at])])
     return at, [change(it, place) if i == at else it for i, it in enumerate(lines)]
@@ -120,7 +120,7 @@ def coloured(lines, made):
 
 
 def digits_of(lines, made):
-    """A line on a register of the protection, and the place of a digit of its value."""
+    """Picks a line of a PMP register, and the position of a digit of its value."""
     at = made.choice([i for i, line in enumerate(lines) if b"pmp" in line])
     value = lines[at].index(b"0x") + 2
     return at, value + made.randrange(len(re.match(rb"[0-9a-f]+", lines[at][value:])[0]))
@@ -137,51 +137,51 @@ def digit_changed(lines, made):
 
 
 def renumbered(lines, made):
-    """An entry of a list with the number of another."""
+    """Gives an entry of a list the number of another."""
     entries = [i for i, line in enumerate(lines) if re.match(rb"\d", line)]
     at, number = made.choice(entries), made.randrange(len(entries) + 1)
     return at, [b"%d%s" % (number, it[it.index(b" ") :]) if i == at else it for i, it in enumerate(lines)]
 
 
 def second_hart(lines, made):
-    """A line that names another hart, and a register of it."""
+    """Inserts a line that names another hart, and one of its registers."""
     at = made.randrange(1, len(lines))
     line = made.choice([b"hart1=1", b"hart1: 0x0", b"cpu1 = 0", b"core1=0", b"thread 1", b"===== RISC-V Registers", b"mhartid 0x1"])
     return at, [line if line.startswith(b"=") else b"mhartid 0x0", *lines[:at], line, b"pmpcfg0 0x18", *lines[at:]]
 
 
 CHANGES = [left_out, swapped, twice, cut, lost, another, noisy, coloured]
-# Changes of one kind of text, each of which has to be refused, or to leave the answer as it was.
+# The mutations of one kind of text, each of which must be refused or leave the answer unchanged.
 OWN_CHANGES = {"log": [], "gdb": [digit_lost, digit_changed, second_hart], "openocd": [digit_lost, second_hart], "plan": [renumbered]}
 
 
 def answer(program, lines):
-    """What `map` prints of a text, without its comments, its status, and what it says on standard error."""
+    """Returns the output of `map` for a text without comments, its status, and its messages."""
     told = subprocess.run([program, "map", "-"], input=b"".join(line + b"\n" for line in lines), capture_output=True)
     return [line for line in told.stdout.split(b"\n") if not line.startswith(b"#")], told.returncode, told.stderr
 
 
 def name_of(line):
-    """The name of the register that a line of a listing sets, or the number of its entry."""
+    """Returns the name of the register that a line of a listing sets, or the number of its entry."""
     words = [word for word in line.split() if not re.fullmatch(rb"\(\d+\)", word)]
     return words[0] if words else b""
 
 
 def may_differ(kind, change, before, after):
-    """Whether the changed text is another one that is right, as the header says."""
+    """Returns whether the mutated text is another valid one, by the rules in the header."""
     if kind == "log":
         regions = [line for line in before if b" Region" in line]
         kept = [line for line in after if b" Region" in line]
         return change in (left_out, cut) and kept == regions[: len(kept)]
     if kind == "plan":
-        # the words behind the pairs say the same once more
+        # the words after the pairs repeat them
         return False
     set_by = {name_of(line) for line in before if b"pmp" in line}
     return change in (left_out, cut) and set(after) < set(before) and bool(set_by)
 
 
 def tried(program, kind, lines, right, change, seed):
-    """One changed text: what is wrong with its answer, or nothing."""
+    """Returns what is wrong with the answer to one mutated text, if anything."""
     made = random.Random(seed)
     at, changed = change(lines, made)
     got = answer(program, changed)

@@ -12,7 +12,7 @@ def edited(platform, out, *edits, flags=""):
     """The image of the sources with these edits: each is a file, a text that it has once, and the text in its place."""
     place = out.with_name(f"{out.name}-sources")
     shutil.copytree(FIRMWARE, place / "firmware", ignore=shutil.ignore_patterns("out"), dirs_exist_ok=True)
-    for name in ("include", "tools"):
+    for name in ("include", "tools", "CHANGELOG.md"):
         (place / name).symlink_to(TOP / name)
     for name, text, instead in edits:
         path = place / "firmware" / name

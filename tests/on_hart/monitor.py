@@ -3,6 +3,7 @@ import importlib.machinery
 import importlib.util
 import os
 import re
+import shlex
 import shutil
 import subprocess
 import sys
@@ -18,7 +19,7 @@ from interleavings import all_interleavings
 from lives import Life
 from resets import each_instruction, left_after, resets, symbol
 from trees import trees
-from wires import Wired
+from wires import START, Wired, without_start
 
 TOP = Path(__file__).resolve().parents[2]
 HERE = Path(__file__).resolve().parent
@@ -208,16 +209,42 @@ def board_of(image, payload, harts, *more):
     return board + ["-bios", str(image), "-device", f"loader,file={payload}", *more]
 
 
-def booted(image, payload, harts, *more, seconds=240):
-    board = board_of(image, payload, harts, *more)
+def said_by(board, seconds):
+    """What a board says in that time, and whether it ended."""
     try:
-        return subprocess.run(board, stdin=subprocess.DEVNULL, capture_output=True, text=True, timeout=seconds).stdout.replace("\r", "")
-    except subprocess.TimeoutExpired:
-        return "the board did not end"
+        return subprocess.run(board, stdin=subprocess.DEVNULL, capture_output=True, text=True, timeout=seconds).stdout.replace("\r", ""), True
+    except subprocess.TimeoutExpired as stopped:
+        return (stopped.stdout or b"").decode("latin-1").replace("\r", ""), False
+
+
+def booted(image, payload, harts, *more, seconds=240):
+    """What a board says after the line that its boot prints."""
+    said, has_ended = said_by(board_of(image, payload, harts, *more), seconds)
+    return without_start(said) if has_ended else "the board did not end"
+
+
+def start_lines(told):
+    """The line that the boot prints: how many harts and entries there are, and whether a host is loaded."""
+    host = [FIRMWARE / "out/pmpmon-virt.elf", FIRMWARE / "out/host.elf"]
+    rows = [(board_of(*host, 1), ("1", "16", "the host is", "0x0000000080200000")), (without_host(*host), ("1", "16", "no host is loaded", "0x0000000080200000"))]
+    for board, want in rows:
+        said, _ = said_by(board, 60 if want[2] == "the host is" else 10)
+        found = START.match(said)
+        told(f"the boot says that {want[2]} at {want[3]}", found is not None and found.groups() == want, said)
+
+
+def without_host(image, payload, *more):
+    board = board_of(image, payload, 1, *more)
+    return board[: board.index("-device")]
 
 
 def built(platform, out, pool=""):
-    subprocess.run([FIRMWARE / "build", platform, out], check=True, env={**os.environ, "POOL": pool, "IMAGE": "pmpmon-virt.elf"})
+    built_by(FIRMWARE, platform, out, pool)
+
+
+def built_by(firmware, platform, out, pool=""):
+    """The same from another copy of the firmware's sources."""
+    subprocess.run([firmware / "build", platform, out], check=True, env={**os.environ, "POOL": pool, "IMAGE": "pmpmon-virt.elf"})
 
 
 def worlds(folder, told):
@@ -351,6 +378,14 @@ def own_tree(program, folder, told):
     subprocess.run([FIRMWARE / "build", tree, folder / "own"], check=True, env={**os.environ, "PMPMON": program, "IMAGE": "pmpmon-virt.elf"})
     said = booted(folder / "own/pmpmon-virt.elf", FIRMWARE / "out/host.elf", 1)
     told("the platform of the board's own device tree boots its host", said == HOST, said if said != HOST else "")
+    # The guide's session goes on without the devices that reach all of memory.
+    edit = re.search(r"(?m)^(sed -i .*) firmware/out/platform\.toml$", (TOP / "docs/guide/maps.md").read_text()).group(1)
+    subprocess.run([*shlex.split(edit), folder / "own/platform.toml"], check=True)
+    warned = subprocess.run([program, "lint", folder / "own/platform.toml"], capture_output=True, text=True).stdout
+    told("the guide's edits leave no device that reaches all of memory", warned == "", warned)
+    built(folder / "own/platform.toml", folder / "less")
+    said = booted(folder / "less/pmpmon-virt.elf", FIRMWARE / "out/host.elf", 1)
+    told("without these devices the board boots its host", said == HOST, said if said != HOST else "")
 
 
 # Which devices a host does not reach, of the shipped platform and of the wide one.
@@ -483,10 +518,14 @@ def ends(folder, told):
 
 
 # What four harts find of fences, of the table of pages at a start, and of interrupts: 4 is one that came after the start.
-QUARTET = "to harts that are not started 0\n" + 2 * "".join(f"hart {it}: its table, and what waited 4\n" for it in (1, 2, 3)) + "a page that was closed meanwhile: fault 5\nfences that did not come 0\n"
+QUARTET = "to harts that are not started 0\n" + 2 * "".join(f"hart {it}: its table, and what waited 4\n" for it in (1, 2, 3)) + "a page that was closed meanwhile: fault 5\nfences that did not come 0\nown fences that did not come 0\n"
 # Why enclaves stop, and the address that their host learns: a closed counter, a store to its code, a jump to its data, and so on (causes_enclave.S).
 CAUSES = "".join(f"{cause} {value:#018x}\n" for cause, value in ((2, 0), (7, 0), (1, 0), (5, 0x85002008), (1, 0x10000000), (3, 0)))
 VECTORS = "run 1\nwhat it exits with 0\nthe cause 2\nthe host's 6210279\nVS 3\n"
+
+
+# Each interrupt that a host sends goes to hart 1 too, started or not: as if hart 1 had stopped since the core looked.
+SENDS_MORE = ("traps.c", "interrupt_harts(action->subject);", "interrupt_harts(action->subject | 2);")
 
 
 def quartet(folder, told):
@@ -495,6 +534,8 @@ def quartet(folder, told):
     payload = host(folder / "quartet.elf", "harts.S", "two_hosts.S", "quartet.c")
     said = booted(four, payload, 4, seconds=120)
     told("each of four harts gets its fences and interrupts, and starts without a table of pages", said == QUARTET, said)
+    said = booted(edited(folder / "four.toml", folder / "sends", SENDS_MORE), payload, 4, seconds=120)
+    told("an interrupt that comes to a hart as it stops is gone when it starts", said == QUARTET, said)
     said = booted(image, host(folder / "zeros.elf", "harts.S", "two_hosts.S", "zeros.c"), 2, seconds=120)
     told("what another hart reads first of a destroyed enclave is zero", said == 4 * "others than zero 0\n", said)
     said = booted(image, host(folder / "causes.elf", "harts.S", "causes_enclave.S", "causes.c"), 1, seconds=60)
@@ -541,7 +582,7 @@ def races(folder, told):
     told(f"instructions from a trap to the world after it: {', '.join(f'{it} {n}' for it, n in taken.items())}", taken.keys() == MOST.keys() and all(taken[it] <= MOST[it] for it in MOST))
 
 
-# The most instructions that a trap takes with its world entered after it (firmware/README.md, "What it takes").
+# The most instructions that a trap takes with its world entered after it (firmware/DESIGN.md, "Costs").
 MOST = {"run": 1000, "stop": 850, "resume": 900, "measure": 620, "base": 200, "set timer": 210, "timer": 750, "exit": 950}
 # The calls of a host by what they are answered, of which those that are done stop another hart; and the turn of a hart in instructions,
 # 100 ms of QEMU's time, where it counts them for all harts.
@@ -581,7 +622,7 @@ def hostile(folder, told):
     match = re.fullmatch(r"registers ([\d ]+)\n(?:with .*\n)+interrupted (\d+), with a table (\d+), with a guest's interrupt (\d+)\nwrong 0\n", said)
     how = "interrupted {} times, {} entries with a table of pages, {} with an interrupt of a guest".format(*match.groups()[1:]) if match else said
     told(f"{runs} runs under a hostile host", match and all(int(it) for it in match.groups()[1:]), how)
-    told_of = set(re.findall(r"`(\w+)`", (FIRMWARE / "README.md").read_text().split("## Control registers")[1].split("\n## ")[0]))
+    told_of = set(re.findall(r"`(\w+)`", (FIRMWARE / "DESIGN.md").read_text().split("## Control registers")[1].split("\n## ")[0]))
     found = [REGISTERS.get(int(it), it) for it in match.group(1).split()] if match else []
     lacking = [it for it in found if it not in told_of]
     told(f"each of {len(found)} registers that supervisor mode writes is in the table of control registers", found and not lacking, " ".join(lacking))
@@ -618,6 +659,7 @@ def monitor(program, told):
         examples(on_hart, program, told)
         trees(folder, told)
         worlds(folder, told)
+        start_lines(told)
         own_tree(program, folder, told)
         lives(on_hart, program, folder, told)
         early_ends(folder, told)

@@ -1,7 +1,7 @@
 /*
- * Four harts of a host. A fence that is asked of one hart, or of all, comes to each of them: it then reads a page through the entry that
- * was put in place before. A hart that was stopped starts without a table of pages. An interrupt that was sent to a hart before it started
- * is gone, and a later one comes.
+ * Four harts of a host. A fence that is asked of one hart, or of all, comes to each of them, and so does one that a hart asks of itself:
+ * it then reads a page through the entry that was put in place before. A hart that was stopped starts without a table of pages. An
+ * interrupt that was sent to a hart before it started is gone, and a later one comes.
  */
 #include "harts.h"
 
@@ -80,6 +80,20 @@ static void fences(void)
     say("fences that did not come", wrong);
 }
 
+/* A fence that a hart asks of itself, alone and with others. */
+static void own_fences(void)
+{
+    uint64_t wrong = 0;
+    with_table();
+    for (unsigned round = 0; round < 8; round++) {
+        uint64_t is_other = round & 1;
+        show(is_other ? OTHER : BASE);
+        wrong += pmpmon_call(RFENCE, 1, round & 2 ? 15 : 1, 0, 0, ~0ul, 0, 0).error != 0 || *(volatile uint64_t *)WINDOW != 1 + is_other;
+    }
+    WRITE(satp, 0);
+    say("own fences that did not come", wrong);
+}
+
 static void interrupts(void)
 {
     say("to harts that are not started", (uint64_t)pmpmon_call(IPI, 0, 14, 0, 0, 0, 0, 0).error);
@@ -133,5 +147,6 @@ void host_main(void)
     interrupts();
     closed();
     fences();
+    own_fences();
     off();
 }

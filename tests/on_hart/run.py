@@ -96,7 +96,7 @@ def linked(folder):
 
 def guide_differs(folder, flags):
     """Whether the guide's program in C is compiled and prints what stands below it."""
-    section = (TOP / "docs" / "GUIDE.md").read_text().split("## From C\n")[1].split("\n## ")[0]
+    section = (TOP / "docs/guide/c-api.md").read_text().split("## From C\n")[1].split("\n## ")[0]
     source, printed = re.search(r"```c\n(.*?)```", section, re.S), re.search(r"```text\n(.*?)```", section, re.S)
     (folder / "map.c").write_text(source.group(1))
     done = said(*LINUX, "-o", folder / "map", folder / "map.c", *flags)

@@ -13,8 +13,8 @@ void host_main(void)
     memset((void *)BASE, 0, 2 * PAGE);
     memcpy((void *)BASE, enclave, (size_t)(enclave_end - enclave));
     struct pmpmon_answer made = pmpmon_create(BASE, 1, 1, 0, 0, entry);
-    if (KIND != EXITS) { /* it goes on until its timer comes */
-        pmpmon_call(TIME, 0, time() + 100000, 0, 0, 0, 0, 0);
+    if (KIND != EXITS) { /* it goes on until its timer comes, and has its numbers before on a slow machine too */
+        pmpmon_call(TIME, 0, time() + 3000000, 0, 0, 0, 0, 0);
         SET(sie, 0x20);
     }
     say("run", (uint64_t)pmpmon_run(made.value).error);

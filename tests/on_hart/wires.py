@@ -10,6 +10,13 @@ import time
 from pathlib import Path
 
 QEMU = "qemu-system-riscv64"
+# The line that the boot prints before it enters the host.
+START = re.compile(r"\Amonitor: pmpmon \d+\.\d+\.\d+, ([1-4]) harts?, (16|64) entries; (the host is|no host is loaded) at (0x[0-9a-f]{16})\n")
+
+
+def without_start(said):
+    """What a board says after that line."""
+    return START.sub("", said)
 
 
 class Wired:
@@ -76,7 +83,7 @@ class Wired:
                 some = os.read(self.process.stdout.fileno(), 4096)
                 if not some:
                     break
-                self.said += some.decode("latin-1").replace("\r", "")
+                self.said = without_start(self.said + some.decode("latin-1").replace("\r", ""))
         return text in self.said
 
     def has_ended(self, seconds=60):

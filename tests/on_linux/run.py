@@ -1,19 +1,21 @@
 #!/usr/bin/env python3
-"""Boots Linux above the monitor's firmware, tries the machine and enclaves below /dev/pmpmon, and types the session of docs/GUIDE.md.
+"""Boots Linux on the monitor's firmware, tests the board and enclaves through /dev/pmpmon, and replays the session of
+docs/guide/enclaves.md.
 
-  tests/on_linux/run.py            all of it
-  tests/on_linux/run.py guide      the guide's session and the wrong inputs alone
-  tests/on_linux/run.py TESTS [HARTS [MEGABYTES]]     one boot with these tests of machine.c, shown as it goes
+  tests/on_linux/run.py            everything
+  tests/on_linux/run.py guide      only the guide's session and the invalid inputs
+  tests/on_linux/run.py TESTS [HARTS [MEGABYTES]]     one boot with these tests of machine.c, with its output as it goes
 
-Linux 6.1 is Debian's, unmodified. It is built once (examples/linux/build.sh), outside the clone. On one, two and four harts
-machine.c tries the machine, and enclaves.c what programs can do and cannot: faults, wrong calls, time limits, kills, as many enclaves
-as there can be, and lives of enclaves under load. Each has to be right, with no complaint in the kernel's log. Then the lines after
-`$ ` and `# ` in the section "An enclave in C on Linux" are typed, in a shell and at the prompt above the monitor, and what comes back
-has to be what is below them; `...` is any lines. Last, what wrong files, a board without a pool and another firmware are answered.
+Linux 6.1 is Debian's, unmodified. It is built once (examples/linux/build.sh), outside the clone. On one, two and four harts machine.c
+tests the board, and enclaves.c what programs can and cannot do: faults, invalid calls, time limits, kills, the maximal number of
+enclaves, and lives of enclaves under load. Everything must pass without complaints in the kernel's log. Then the lines after `$ ` and
+`# ` in the section "An enclave in C on Linux" are typed, in a shell and at the prompt on the board, and the output must be the lines
+below them; `...` matches any lines. Finally the test checks the messages for invalid files, a board without a pool, and another
+firmware.
 
-PMPMON_MODULE=FILE.o is a module of the monitor that nobody proved, as in firmware/build, and PMPMON_PROGRAM=FILE another program than
-the proved one. What is missing is said, and nothing tested.
-The last line that is printed is 'N passed, M failed'.
+PMPMON_MODULE=FILE.o is an unproved module of the monitor, as for firmware/build, and PMPMON_PROGRAM=FILE replaces the proved program.
+If a tool is missing, the test reports it and runs nothing.
+The last line printed is 'N passed, M failed'.
 """
 import concurrent.futures
 import gzip
@@ -41,9 +43,9 @@ TOOLS = ["qemu-system-riscv64", CROSS, BARE, "make", "bc", "bison", "flex", "cpi
 PACKAGES = "linux-source-6.1 gcc-riscv64-linux-gnu libc6-dev-riscv64-cross gcc-riscv64-unknown-elf qemu-system-misc make bc bison flex cpio xz-utils"
 SECTION = "## An enclave in C on Linux\n"
 GUIDES_COMPILER = "12.2.0"
-FOREVER, SAYS = 5, 8  # of tried.h
+FOREVER, SAYS = 5, 8  # as in tried.h
 DIGEST = re.compile(r"\b[0-9a-f]{64}\b")
-# The enclaves of one process are 32 at most, but where a test says more.
+# The enclaves of one process are 32 at most unless a test sets another limit.
 MANY = "unload,load:most=64;mode=0666,enclaves:user"
 BOOTS = {
     (4, 128): f"basic,hotplug,load,pmpmon-look:/enclaves/hello.elf,enclaves:wrong,enclaves:faults,enclaves:times,enclaves:killed,enclaves:limit:32,{MANY},"
@@ -57,20 +59,20 @@ report = counted.told
 
 
 def compiled(out, name, *sources):
-    """A program for the kernel."""
+    """Compiles a program for Linux."""
     words = ["-static", "-std=gnu11", "-O2", "-pthread", "-Wall", "-Wextra", "-Wno-clobbered", f"-I{TOP}/include", f"-I{LINUX}/programs", f"-I{HERE}"]
     subprocess.run([CROSS, *words, "-o", out / name, *sources], check=True)
 
 
 def archive(folder, file):
-    """What a folder has, as a part of an initramfs."""
+    """Packs the contents of a folder as a part of an initramfs."""
     listed = "\n".join(str(it.relative_to(folder)) for it in sorted(folder.rglob("*")))
     packed = subprocess.run(["cpio", "-o", "-H", "newc", "--quiet", "-R", "0:0"], cwd=folder, input=listed.encode(), stdout=subprocess.PIPE, check=True).stdout
     file.write_bytes(gzip.compress(packed))
 
 
 def build(place):
-    """Kernel, firmware and initramfs, with the tests' own programs in a second part of it."""
+    """Builds kernel, firmware and initramfs, with the tests' own programs in a second part of it."""
     out, more = place / "out", place / "more"
     make_enclave(place, HERE / "tried.c", "-Wl,--defsym=PMPMON_STACK=4096")
     subprocess.run([LINUX / "build.sh", out, place / "tried.elf"], check=True)
@@ -84,7 +86,7 @@ def build(place):
 
 
 def build_bench(place, more):
-    """The module that measures SBI's calls, by the kernel that the driver was built by."""
+    """Builds the module that measures SBI calls, with the kernel that the driver was built for."""
     kernel = subprocess.run([LINUX / "build.sh", "--kernel"], check=True, capture_output=True, text=True).stdout.strip()
     (place / "bench").mkdir()
     shutil.copy(HERE / "sbi_bench.c", place / "bench")
@@ -95,14 +97,14 @@ def build_bench(place, more):
 
 
 def make_enclave(place, source, *words):
-    """An enclave of a file, by the line of the Makefile, in a folder."""
+    """Builds an enclave from a file in a folder, with the Makefile's command."""
     shutil.copy(source, place)
     flags = f"MORE={' '.join([f'-I{HERE}', *words])}"
     subprocess.run(["make", "-s", "-C", place, "-f", LINUX / "enclaves/Makefile", flags, Path(source).with_suffix(".elf").name], check=True)
 
 
 def boot(out, place, harts, megabytes, tests, firmware=None, is_shown=False):
-    """What a boot with these tests says, line by line."""
+    """Boots with these tests and returns the output, line by line."""
     words = {"HARTS": str(harts), "MEMORY": str(megabytes), "INITRAMFS": str(place / "tests.gz"), "WORDS": f"loglevel={5 if is_shown else 4} rdinit=/machine tests={tests}"}
     if firmware:
         words["FIRMWARE"] = str(firmware)
@@ -128,13 +130,13 @@ def boot(out, place, harts, megabytes, tests, firmware=None, is_shown=False):
 
 
 def machine(harts, tests, lines, seconds):
-    """The tests of one boot, each counted; how many enclaves lived."""
+    """Counts the tests of one boot, and returns how many enclaves lived."""
     name = f"{harts} hart{'s' if harts > 1 else ''}"
     found = [it for it in lines if it.startswith(("ok: ", "FAILED: "))]
     for it in found:
         report(f"{name}: {it.split(': ', 1)[1]}", it.startswith("ok: "))
     last = [it for it in lines if re.fullmatch(r"machine: \d+ passed, \d+ failed, .*", it)]
-    # (a program's row begins with its words; the other tests have rows by other names)
+    # (a program's row begins with its words; the other tests have rows with other names)
     programs = [it for it in tests.split(",") if it.startswith(("enclaves:", "pmpmon-look:"))]
     lacking = [it for it in programs if not any(f": {it}: " in row for row in found)]
     right = last and int(last[0].split()[1]) >= len(tests.split(",")) and not lacking
@@ -148,7 +150,7 @@ def machine(harts, tests, lines, seconds):
 
 
 def machines(out, place):
-    """All boots, side by side."""
+    """Runs all boots in parallel."""
     began = time.monotonic()
 
     def timed(row):
@@ -174,7 +176,7 @@ class Prompt:
         self.board.wait()
 
     def until_prompt(self, seconds=90):
-        """What is said up to the next prompt, or the end."""
+        """Returns the output up to the next prompt, or the end."""
         said, end = b"", time.monotonic() + seconds
         while time.monotonic() < end and not (b"\n" + said).endswith(b"\n# "):
             if select.select([self.board.stdout], [], [], 0.2)[0]:
@@ -185,15 +187,15 @@ class Prompt:
         return said.decode(errors="replace").replace("\r", "").split("\n")[:-1]
 
     def answer(self, line):
-        """What a line is answered, without its echo."""
+        """Returns the output of a command, without its echo."""
         self.board.stdin.write(line.encode() + b"\n")
         self.board.stdin.flush()
         return self.until_prompt()[1:]
 
 
 def session():
-    """The lines of the guide's section that are typed, each with its prompt and what it is answered, and its C files by name."""
-    section = (TOP / "docs" / "GUIDE.md").read_text().split(SECTION)[1].split("\n## ")[0]
+    """Returns the typed lines of the guide's section, each with its prompt and its output, and its C files by name."""
+    section = (TOP / "docs/guide/enclaves.md").read_text().split(SECTION)[1].split("\n## ")[0]
     rows = []
     for block in re.findall(r"```console\n(.*?)```", section, re.S):
         for line in block.splitlines():
@@ -210,7 +212,7 @@ def version_of_compiler():
 
 
 def check_row(line, want, got):
-    """Digests are compared by value only where the compiler is the guide's."""
+    """Checks the output of one line. Digests are compared by value only if the compiler is the guide's."""
     if version_of_compiler() != GUIDES_COMPILER:
         want, got = [DIGEST.sub("DIGEST", it) for it in want], [DIGEST.sub("DIGEST", it) for it in got]
     right = matches(want, got)
@@ -218,7 +220,7 @@ def check_row(line, want, got):
 
 
 def guide(place):
-    """The session of the guide, in an empty folder."""
+    """Replays the session of the guide in an empty folder."""
     rows, files = session()
     report("the guide has a session", len(rows) > 5 and files)
     if version_of_compiler() != GUIDES_COMPILER:
@@ -244,7 +246,7 @@ def guide(place):
 
 
 def wrong_files(place, out):
-    """Files that are no enclave, each with what is said of it."""
+    """Makes files that are not enclaves, each with its error message."""
     bad = place / "badly/bad"
     bad.mkdir(parents=True)
     hello = (out / "root/enclaves/hello.elf").read_bytes()
@@ -276,7 +278,7 @@ def wrong_files(place, out):
 
 
 def bad_input(place, out):
-    """What a user is answered who is wrong: about a file, the board or the firmware."""
+    """Checks the messages for wrong input: an invalid file, a wrong board or another firmware."""
     rows = wrong_files(place, out)
     with Prompt(out, HARTS="1", MEMORY="128", INITRAMFS=str(place / "bad.gz")) as prompt:
         prompt.until_prompt()
@@ -307,7 +309,7 @@ def bad_input(place, out):
 
 
 def without(out, name, want, **words):
-    """A board on which the driver does not load: what it says, and what programs say."""
+    """Checks the messages of a board on which the driver does not load, and of programs there."""
     with Prompt(out, HARTS="1", MEMORY="128", **words) as prompt:
         report(f"{name}: {want}", any(want in it for it in prompt.until_prompt()))
         got = prompt.answer("pmpmon-run hello.elf")
@@ -315,7 +317,7 @@ def without(out, name, want, **words):
 
 
 def digests(place, out):
-    """The digest of each enclave's file is the one that the proved program says, where it is built."""
+    """Checks that the proved program, if it is built, computes the digest of each enclave's file."""
     if not PROGRAM.is_file():
         print("left out: digests beside those of `pmpmon measure`, which is not built")
         return

@@ -1,28 +1,28 @@
 #!/usr/bin/env python3
-"""Loads the registers that the program prints into a hart of QEMU's `virt` board, of RV64 and of RV32, does accesses in
-supervisor and user mode, and compares what comes of each with what `judge` answers.
+"""Loads the registers that the program prints into a hart of QEMU's `virt` board, for RV64 and RV32, performs accesses in supervisor
+and user mode, and compares each outcome with the answer of `judge`.
 
   tests/on_qemu/run.py PROGRAM
 
-For each map of examples/ whose list fits sixteen entries, and for some made at random, a firmware is made of what
-`plan --format asm` and `plan --format c` print, start.S, load.c and firmware.c, and booted. It calls the routine of the
-assembly and tells the registers, loads an older list that opens everything, calls the function of the C, and tells them
-again: both times they have to be the same. Before that both load the list from entry 3 on (`--first 3`), above three entries
-that were written by hand, which have to stand as they were, with their bytes of pmpcfg0. Then it loads, stores and fetches at both edges of each entry and in its middle, in every size, and at random
-addresses; an access of something that the board has not (there is memory from 0x80000000 on, of RAM bytes, and devices
-below it) is left out. Stores outside memory are done only where they are denied. The registers are read back first:
-`audit` has to say of them that they mean the map, and `judge --registers` has to answer each access as `judge` does by the map.
+For each map of examples/ whose list fits sixteen entries, and for some random ones, a firmware is built from the output of
+`plan --format asm` and `plan --format c`, start.S, load.c and firmware.c, and booted. It calls the assembly routine and prints the
+registers, loads an older list that opens everything, calls the C function, and prints them again: they must be the same both times.
+Before that both load the list from entry 3 on (`--first 3`), after three handwritten entries, which must not change, nor their bytes
+of pmpcfg0. Then the firmware loads, stores and fetches at both edges of each entry and in its middle, in every size, and at random
+addresses. Accesses to absent devices or memory are skipped (there is memory from 0x80000000 on, of RAM bytes, and devices below it).
+Stores outside memory are performed only if they are denied. The registers are read back first: `audit` must confirm that they mean
+the map, and `judge --registers` must answer each access as `judge` does with the map.
 
-The hart of RV32 does the same, from the same sources, by what is printed with `--xlen 32`. Its instructions reach addresses
-below 2^32, and load and store at most four bytes.
+The hart of RV32 does the same, from the same sources, with the output of `--xlen 32`. Its instructions reach addresses below 2^32, and
+load and store at most four bytes.
 
-It wants qemu-system-riscv64, qemu-system-riscv32 and riscv64-unknown-elf-gcc; on Debian:
+The test requires qemu-system-riscv64, qemu-system-riscv32 and riscv64-unknown-elf-gcc; on Debian:
 
   apt-get install --no-install-recommends qemu-system-misc gcc-riscv64-unknown-elf
 
 Registers of a hart with Smepmp are tried under each `mseccfg` (smepmp.py), in machine mode too.
 
-Where one of them is missing it says so, and what wants it is not tested. The last line that is printed is 'N passed, M failed'.
+If a tool is missing, the test reports it and skips what requires it. The last line printed is 'N passed, M failed'.
 """
 import json
 import random
@@ -42,39 +42,39 @@ GCC = "riscv64-unknown-elf-gcc"
 
 
 class Width:
-    """A hart by how many bits its registers have."""
+    """A hart with registers of this many bits."""
 
     def __init__(self, bits, abi):
         self.bits, self.name, self.qemu = bits, f"RV{bits}", f"qemu-system-riscv{bits}"
         self.flags = [f"-march=rv{bits}imac_zicsr_zifencei", f"-mabi={abi}", "-mcmodel=medany", "-ffreestanding", "-nostdlib", "-static", "-Os", "-Wall", "-Werror"]
-        # What the program is told of it.
+        # The program's options for this width.
         self.options = [] if bits == 64 else ["--xlen", str(bits)]
         self.words = [f"pmpcfg{n}" for n in range(0, 4, bits // 32)]
         self.registers = 16 + len(self.words)
-        # An address register that opens everything, with such bytes of a configuration word.
+        # An address register that opens everything, with the bytes of a configuration word for that.
         self.open, self.open_bytes = (1 << min(bits, 54)) - 1, int("1f" * (bits // 8), 16)
-        # What an instruction can reach, and the most bytes that it loads or stores.
+        # The addresses that an instruction can reach, and the maximal number of bytes that it loads or stores.
         self.reach, self.most = 1 << min(bits, 56), bits // 8
 
 
 RV64, RV32 = Width(64, "lp64"), Width(32, "ilp32")
-# The hart that is tested. tests/on_hart has the first alone.
+# The hart under test. tests/on_hart uses only the first.
 HART = RV64
 QEMU, FLAGS = RV64.qemu, RV64.flags
 RAM_BASE, RAM = 0x80000000, 1 << 30
-# The firmware stands where no example has an edge, behind a jump at the address that the board begins at.
+# The firmware is where no example has an edge. The board begins at a jump to it.
 FIRMWARE, FIRMWARE_END = 0x86A00000, 0x86B00000
 RANDOM = 600
 MADE = 6
-# Entries that are written by hand below a list which begins at entry FIRST: their addresses, and their bytes of pmpcfg0.
+# Handwritten entries before a list that begins at entry FIRST: their addresses, and their bytes of pmpcfg0.
 FIRST = 3
 BELOW, BELOW_BYTES = (0x11, 0x2222, 0x333333), 0x191B18
-# Whether such a list is loaded too: not by tests/on_hart, whose firmware plans by itself, from entry 0 on.
+# Whether such a list is loaded too; not in tests/on_hart, whose firmware plans itself, from entry 0 on.
 ABOVE = True
 
 
 def writes(registers, value):
-    """Assembly that writes a number into registers."""
+    """Returns assembly that writes a number into registers."""
     return f"    li      t0, {value:#x}\n" + "".join(f"    csrw    {register}, t0\n" for register in registers)
 
 
@@ -83,13 +83,13 @@ def addresses_named():
 
 
 def loads():
-    """What start.S does with the routine of the assembly, which stands behind it, and with the function of the C."""
+    """Returns the code of start.S that calls the assembly routine after it and the C function."""
     older = writes(addresses_named(), (1 << HART.bits) - 1) + writes(HART.words, HART.open_bytes)
     return "    call    assembled_load\n    call    put_registers\n" + older + "    call    load_in_c\n    j       loaded\n"
 
 
 def loads_above():
-    """What it does before: above those entries, in place of an older list, the routine and the function load such a list."""
+    """Returns the code before that: for an older list with those entries, the routine and the function load a list after them."""
     older = writes(addresses_named(), HART.open)
     older += "".join(writes([f"pmpaddr{i}"], address) for i, address in enumerate(BELOW))
     older += writes(HART.words[:1], HART.open_bytes >> 8 * FIRST << 8 * FIRST | BELOW_BYTES) + writes(HART.words[1:], HART.open_bytes)
@@ -98,7 +98,7 @@ def loads_above():
 
 
 def around(entry):
-    """Addresses at the edges of an entry and in its middle."""
+    """Yields addresses at the edges of an entry and in its middle."""
     base, end = int(entry["base"], 16), int(entry["base"], 16) + entry["size"]
     for edge in (base, end):
         for size in (1, 2, 4, 8):
@@ -108,7 +108,7 @@ def around(entry):
 
 
 def somewhere(entries, chance):
-    """A random address in an entry, in memory, or below it."""
+    """Returns a random address in an entry, in memory, or below it."""
     size = chance.choice((1, 2, 4, 8))
     within = chance.choice(entries) if entries else {"base": "0x0", "size": RAM_BASE}
     base, length = chance.choice(((int(within["base"], 16), within["size"]), (RAM_BASE, RAM), (0, RAM_BASE)))
@@ -116,7 +116,7 @@ def somewhere(entries, chance):
 
 
 def accesses_of(entries):
-    """Each access as a kind, a mode, a size and an address."""
+    """Yields each access as a kind, a mode, a size and an address."""
     chance = random.Random(1)
     places = [place for entry in entries for place in around(entry)]
     places += [somewhere(entries, chance) for _ in range(RANDOM)]
@@ -130,7 +130,7 @@ def accesses_of(entries):
 
 
 def made_maps(program, folder):
-    """Maps of random ranges and permissions in memory, each with a list that fits."""
+    """Makes maps of random ranges and permissions in memory, each with a list that fits."""
     chance, made = random.Random(2), 0
     while made < MADE:
         lines = []
@@ -156,7 +156,7 @@ def row_of(access):
 
 
 def answers_to(program, words):
-    """What `judge` answers."""
+    """Returns the answers of `judge`."""
     told = subprocess.run([program, "judge", *words, *HART.options], capture_output=True, text=True, check=True)
     return [line.split(" ", 1)[1] for line in told.stdout.splitlines()]
 
@@ -168,7 +168,7 @@ def judged(program, path, folder, accesses):
 
 
 def built(folder):
-    """The firmware of registers.s, registers.h and accesses.h."""
+    """Builds the firmware from registers.s, registers.h and accesses.h."""
     place = [f"-Wl,--section-start=.jump={RAM_BASE:#x}", f"-Wl,-Ttext={FIRMWARE:#x}", "-Wl,--build-id=none", "-Wl,--no-warn-rwx-segments"]
     image = folder / "firmware.elf"
     sources = [HERE / "start.S", HERE / "load.c", HERE / "firmware.c"]
@@ -177,7 +177,7 @@ def built(folder):
 
 
 def booted(image):
-    """The registers as they were read back each time, and what came of each access."""
+    """Returns the registers as read back each time, and the outcome of each access."""
     board = [HART.qemu, "-machine", "virt", "-smp", "1", "-m", str(RAM >> 20), "-display", "none", "-monitor", "none", "-serial", "stdio", "-bios", image]
     try:
         told = subprocess.run(board, stdin=subprocess.DEVNULL, capture_output=True, text=True, timeout=240)
@@ -189,14 +189,14 @@ def booted(image):
 
 
 def printed(program, path, form, name, *more):
-    """What `plan` prints of a map in a format, by that name."""
+    """Returns the output of `plan` for a map in a format, with that name."""
     told = subprocess.run([program, "plan", path, "--format", form, "--name", name, *more, *HART.options], capture_output=True, text=True, check=True)
     return told.stdout
 
 
 def above(program, path, entries):
-    """The registers of a list that begins at entry FIRST, above entries that stay as they are: those of the routine, which
-    leaves addresses behind the list, and those of the function, which does not."""
+    """Yields the registers with a list that begins at entry FIRST after unchanged entries: those of the routine, which does not write the
+    addresses after the list, and those of the function, which does."""
     told = json.loads(printed(program, path, "json", "above", "--first", str(FIRST)))
     words = [int(word, 16) for word in told["pmpcfg"]]
     digits = HART.bits // 4
@@ -208,7 +208,7 @@ def above(program, path, entries):
 
 
 def audited(program, path, folder, registers, answers):
-    """Whether `audit` says of the registers that they mean the map, and they judge as the map's do."""
+    """Returns whether `audit` accepts the registers for the map, and they judge like the map's."""
     listing = folder / "registers"
     listing.write_text("".join(line + "\n" for line in registers))
     if subprocess.run([program, "audit", path, listing, *HART.options], capture_output=True).returncode:
@@ -217,7 +217,7 @@ def audited(program, path, folder, registers, answers):
 
 
 def tested(program, path, folder):
-    """How many accesses were compared, how many were left out, and which differ."""
+    """Returns how many accesses were compared, how many were skipped, and which differ."""
     entries = json.loads(subprocess.run([program, "plan", path, "--format", "json", *HART.options], capture_output=True, text=True, check=True).stdout)["entries"]
     accesses = list(accesses_of(entries))
     answers = judged(program, path, folder, accesses)
@@ -245,7 +245,7 @@ def tested(program, path, folder):
 
 
 def tested_here(program):
-    """How many maps were as they should be on the hart, and how many were not."""
+    """Returns how many maps passed on the hart, and how many failed."""
     missing = [tool for tool in (HART.qemu, GCC) if not shutil.which(tool)]
     if missing:
         print(f"left out: the accesses on QEMU's virt board of {HART.name}, for want of {' and '.join(missing)}")

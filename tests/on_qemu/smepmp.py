@@ -1,9 +1,9 @@
-"""Registers under each `mseccfg`, on a hart of QEMU's `virt` board with Smepmp (QEMU 7.2 calls it `x-epmp`).
+"""Tests registers under each `mseccfg`, on a hart of QEMU's `virt` board with Smepmp (QEMU 7.2 calls it `x-epmp`).
 
-Entries 0 to 2 are the firmware's own, locked: its instructions, its data, and the devices that it tells its answers by. The
-others are made at random, of OFF, TOR and NAPOT with any bits, within a window of memory. Each access of supervisor and user
-mode is compared with what `judge --registers` answers of the registers that were read back. A trace has no access of machine
-mode, so those are compared with the table of the standard, which is written down here once more.
+Entries 0 to 2 are the firmware's own, locked: for its code, its data, and the devices that it reports through. The others are random:
+OFF, TOR and NAPOT with any bits, within a window of memory. Each access in supervisor and user mode is compared with the answer of
+`judge --registers` for the registers that were read back. A trace has no accesses of machine mode, so those are compared with the
+table of the standard, which is repeated here.
 """
 import random
 import subprocess
@@ -13,20 +13,20 @@ from pathlib import Path
 HERE = Path(__file__).resolve().parent
 WINDOW, PAGES = 0x80400000, 32
 CODE, DATA, HALF = 0x86A00000, 0x86A80000, 1 << 19
-# Each `mseccfg`, and how many lists of registers are tried under it.
+# Each `mseccfg`, and the number of register lists that are tried under it.
 SETS = {0: 2, 1: 4, 2: 2, 3: 4, 4: 1, 5: 3, 6: 1, 7: 3}
 ACCESSES = 400
-# What an entry gives machine mode with MML set, by L, R, W and X as a binary number, and the same of supervisor and user mode.
+# The rights of machine mode with MML set, by L, R, W and X as a binary number, and those of supervisor and user mode.
 MACHINE = ["", "", "rw", "rw", "", "", "", "", "", "x", "x", "rx", "r", "rx", "rw", "r"]
 
 
 def block(base, size):
-    """The address register of NAPOT."""
+    """Returns the NAPOT address register of a block."""
     return base >> 2 | (size >> 3) - 1
 
 
 def made_registers(chance, mseccfg):
-    """Sixteen configuration bytes and address registers."""
+    """Returns sixteen random configuration bytes and address registers."""
     cfgs, addresses = [0x9D, 0x9B, 0x9B], [block(CODE, HALF), block(DATA, HALF), block(0, 1 << 29)]
     while len(cfgs) < 16:
         bits = chance.randrange(8)
@@ -63,7 +63,7 @@ def header(cfgs, addresses, mseccfg, accesses):
 
 
 def booted(gcc, hart, folder):
-    """The registers as they were read back, and what came of each access."""
+    """Returns the registers as read back, and the outcome of each access."""
     places = ["-Wl,--section-start=.jump=0x80000000", f"-Wl,-Ttext={CODE:#x}", f"-Wl,-Tdata={DATA:#x}", f"-Wl,-Tbss={DATA + HALF // 2:#x}"]
     image = folder / "firmware.elf"
     (folder / "registers.s").write_text("")
@@ -76,7 +76,7 @@ def booted(gcc, hart, folder):
 
 
 def machine_answer(cfgs, addresses, mseccfg, access):
-    """What an access of machine mode within one page comes to, by the standard."""
+    """Returns the outcome of a machine-mode access within one page, by the standard."""
     kind, _, _, at = access
     right, cause = {"load": ("r", 5), "store": ("w", 7), "fetch": ("x", 1)}[kind]
     rights = "" if mseccfg & 2 else "rw" if mseccfg & 1 else "rwx"
@@ -99,7 +99,7 @@ def machine_answer(cfgs, addresses, mseccfg, access):
 
 
 def tried(program, gcc, hart, seed, mseccfg, folder):
-    """What differs, for one list of registers."""
+    """Returns the differences for one list of registers."""
     chance = random.Random(seed)
     cfgs, addresses = made_registers(chance, mseccfg)
     accesses = list(made_accesses(chance))
@@ -119,7 +119,7 @@ def tried(program, gcc, hart, seed, mseccfg, folder):
 
 
 def tested(program, gcc, hart):
-    """Under how many values of `mseccfg` each access was as it should be, and under how many not."""
+    """Returns the number of values of `mseccfg` under which each access passed, and of those under which one failed."""
     passed = failed = 0
     for mseccfg, count in SETS.items():
         wrong = []

@@ -1,19 +1,18 @@
 #!/usr/bin/env python3
-"""Boots Debian's U-Boot above the monitor's firmware, types at its prompt, and compares with the session of docs/GUIDE.md.
+"""Boots Debian's U-Boot on the monitor's firmware, types at its prompt, and compares with the session of docs/guide/enclaves.md.
 
   tests/on_uboot/run.py
 
-U-Boot is a host that nobody here wrote. Each line after `=> ` in the section "An enclave from a prompt in ten minutes" is typed, and
-what comes back has to be what stands below it; `...` stands for any lines. The two lines that U-Boot's `go` prints around
-each program are left out. The digest is also computed from the enclave's bytes here. Then
-U-Boot boots with -kernel, and on a board of two harts; and it makes and runs the enclave in C of examples/linux/enclaves, whose digest is
-the one that examples/linux/digest.py computes of the file.
+U-Boot is an independent host. Each line after `=> ` in the section "An enclave from a prompt in ten minutes" is typed, and the output
+must be the lines below it; `...` matches any lines. The two lines that U-Boot's `go` prints around each program are omitted. The
+digest is also computed from the enclave's bytes here. Then U-Boot boots with -kernel, and on a board with two harts; and it creates and
+runs the enclave in C of examples/linux/enclaves, whose digest is the one that examples/linux/digest.py computes for the file.
 
-It wants qemu-system-riscv64, riscv64-unknown-elf-gcc, make and u-boot-qemu; on Debian:
+The test requires qemu-system-riscv64, riscv64-unknown-elf-gcc, make and u-boot-qemu; on Debian:
 
   apt-get install --no-install-recommends qemu-system-misc gcc-riscv64-unknown-elf make u-boot-qemu
 
-Where one of them is missing it says so, and nothing is tested. The last line that is printed is 'N passed, M failed'.
+If one of them is missing, the test reports it and runs nothing. The last line printed is 'N passed, M failed'.
 """
 import hashlib
 import importlib.util
@@ -43,7 +42,7 @@ told = counted.told
 
 
 class Prompt:
-    """A board that U-Boot runs on, and its prompt."""
+    """A board that runs U-Boot, and its prompt."""
 
     def __init__(self, image, programs, *more):
         board = [QEMU, "-machine", "virt", "-m", "128", "-display", "none", "-monitor", "none", "-serial", "stdio", "-bios", str(image)]
@@ -59,7 +58,7 @@ class Prompt:
         self.board.wait()
 
     def until_prompt(self):
-        """What is said up to the next prompt; U-Boot's countdown is stopped by a key."""
+        """Returns the output up to the next prompt, and stops U-Boot's countdown with a key."""
         said, end, is_stopped = b"", time.monotonic() + MOST_SECONDS, False
         while time.monotonic() < end:
             if not select.select([self.board.stdout], [], [], 0.2)[0]:
@@ -78,14 +77,14 @@ class Prompt:
         self.board.stdin.flush()
 
     def answer(self, line):
-        """What a line is answered, without its echo and the lines of `go`."""
+        """Returns the output of a command, without its echo and the lines of `go`."""
         self.typed(line)
         return [it for it in self.until_prompt()[1:] if not AROUND.match(it)]
 
 
 def session():
-    """The lines that are typed, each with what it is answered."""
-    section = (TOP / "docs" / "GUIDE.md").read_text().split(SECTION)[1].split("\n## ")[0]
+    """Returns the typed lines, each with its output."""
+    section = (TOP / "docs/guide/enclaves.md").read_text().split(SECTION)[1].split("\n## ")[0]
     rows = []
     for block in re.findall(r"```console\n(.*?)```", section, re.S):
         for line in block.splitlines():
@@ -97,12 +96,12 @@ def session():
 
 
 def digest_of(code):
-    """The digest of an enclave of one page of text (docs/FORMATS.md, "Calls of the monitor")."""
+    """Returns the digest of an enclave of one page of text (docs/formats/calls.md, "Calls of the monitor")."""
     return hashlib.sha256(struct.pack("<4Q", 1, 0, 0, 0) + code.ljust(4096, b"\0")).hexdigest()
 
 
 def guide(programs):
-    """The session of the guide, on one hart."""
+    """Replays the session of the guide on one hart."""
     rows = session()
     with Prompt(programs / "pmpmon-virt.elf", programs, "-device", f"loader,file={UBOOT},addr=0x80200000") as prompt:
         told("U-Boot comes to its prompt", any(it.startswith("U-Boot 20") for it in prompt.until_prompt()))
@@ -118,7 +117,7 @@ def guide(programs):
 
 
 def numbers(prompt):
-    """Numbers with 0x before them, and words that are none."""
+    """Checks numbers with a 0x prefix, and words that are not numbers."""
     word = prompt.answer("go 84000000 peek 80200000")
     wrong = ["8020000g", "0x", "12345678123456789"]
     got = [prompt.answer(f"go 84000000 peek {it}") for it in ("0x80200000", "0X80200000", *wrong)]
@@ -127,7 +126,7 @@ def numbers(prompt):
 
 
 def parts_of(file):
-    """Pages of text, data and shared ones of an enclave's file, and its digest by examples/linux/digest.py."""
+    """Returns the numbers of text, data and shared pages of an enclave's file, and its digest by examples/linux/digest.py."""
     spec = importlib.util.spec_from_file_location("digest", TOP / "examples/linux/digest.py")
     module = importlib.util.module_from_spec(spec)
     spec.loader.exec_module(module)
@@ -137,7 +136,7 @@ def parts_of(file):
 
 
 def in_c(folder, image):
-    """An enclave in C: what it says stands in its first shared page (include/pmpmon_enclave.h)."""
+    """Checks an enclave in C, whose output is in its first shared page (include/pmpmon_enclave.h)."""
     subprocess.run(["make", "-s", "-C", TOP / "examples/linux/enclaves", f"OUT={folder}"], check=True)
     subprocess.run([GCC.replace("gcc", "objcopy"), "-O", "binary", folder / "hello.elf", folder / "hello.bin"], check=True)
     text, data, shared, digest = parts_of(folder / "hello.elf")
@@ -158,7 +157,7 @@ def in_c(folder, image):
 
 
 def two_harts(folder):
-    """U-Boot on one of two harts, while the other waits in the monitor; its reset begins with both."""
+    """Runs U-Boot on one of two harts, while the other waits in the monitor; a reset restarts both."""
     platform = folder / "two.toml"
     platform.write_text((TOP / "examples/uboot/platform.toml").read_text().replace("harts = 1", "harts = 2"))
     subprocess.run([TOP / "firmware/build", platform, folder], check=True)

@@ -1,13 +1,13 @@
 #!/usr/bin/env python3
-"""The tables of maps as pictures and as JSON, against the same tables as text.
+"""Compares the tables of maps as pictures and as JSON with the same tables as text.
 
   tests/pictures/run.py PROGRAM [--write]
 
-Of each map of examples/: the picture is well-formed XML, has a band for each row of the text, with its class, addresses and
-entry, and a gap for each other stretch, none of which lies over another; the JSON object has the same rows, and its stretches
-leave no byte out. docs/example-host.svg is the picture of examples/example-host.map; `--write` writes it anew. The colours of two
-permissions are told apart by readers with each kind of colour blindness (Machado and others, 2009), and text on each can be read.
-Where Chromium is installed it draws the picture, and a pixel of each band has the band's colour.
+For each map of examples/: the picture is well-formed XML, has a band for each row of the text, with its class, addresses and entry,
+and a gap for each other stretch, without overlaps; the JSON object has the same rows, and its stretches cover every byte.
+docs/example-host.svg is the picture of examples/example-host.map; `--write` rewrites it. Readers with any kind of colour blindness
+(Machado and others, 2009) can distinguish the colours of two permissions, and text on each is legible. If Chromium is installed, it
+draws the picture, and a pixel of each band must have the band's colour.
 The last line is 'N passed, M failed'; any failure makes the status 1.
 """
 import itertools
@@ -93,7 +93,7 @@ def check_json(name, path, rows):
 
 
 def bands_of(svg):
-    """Each band: its class and its box."""
+    """Returns the class and the box of each band."""
     return [(it.get("class"), *(int(it.get(key)) for key in ("x", "y", "width", "height")))
             for it in svg.iter(SVG + "rect") if it.get("y") is not None]
 
@@ -114,7 +114,7 @@ def check_picture(name, svg, rows, gaps):
 
 
 def pixels_of(png):
-    """The rows of a PNG of eight bits a channel, each a list of colours."""
+    """Returns the rows of a PNG with eight bits per channel, each as a list of colours."""
     at, data, width, channels = 8, b"", 0, 0
     while at < len(png):
         size, kind = struct.unpack(">I4s", png[at:at + 8])

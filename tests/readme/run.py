@@ -1,12 +1,12 @@
 #!/usr/bin/env python3
-"""Runs the commands that README.md and docs/GUIDE.md show, and compares what they print with what is below them. The session above
-Linux is tests/on_linux's.
+"""Runs the commands in README.md and the pages of docs/guide, and compares their output with the lines below them. tests/on_linux covers
+the Linux session.
 
   tests/readme/run.py PROGRAM
 
-A command is a line of a block that begins with `$ `; what it prints is below it, up to the next command or the block's end,
-a line `...` for any lines. One on a hart is left out where there is none. Those of a document see the files that the ones before them made, and the examples. The last line
-that is printed is 'N passed, M failed'.
+A command is a line of a block that begins with `$ `. Its output is below it, up to the next command or the end of the block; a line
+`...` matches any lines. Commands that need a hart are skipped if there is none. The commands of a document see the files that earlier
+ones made, and the examples. The last line printed is 'N passed, M failed'.
 """
 import re
 import shutil
@@ -24,7 +24,7 @@ HAS_HART = all(shutil.which(it) for it in ("qemu-system-riscv64", "riscv64-unkno
 
 
 def commands(text):
-    """Each command of the blocks of a text, with the lines that it prints."""
+    """Returns each command in the blocks of a text, with its expected output."""
     for block in re.findall(r"(?ms)^```\w*\n(.*?)^```$", text):
         command, lines = None, []
         for line in block.split("\n"):
@@ -39,18 +39,18 @@ def commands(text):
 
 
 def is_told(lines, told):
-    """Whether this was printed, where a line of three points stands for any lines."""
+    """Returns whether the output matches, where a line `...` matches any lines."""
     pattern = "".join("(?:.*\n)*?" if line == "..." else re.escape(line + "\n") for line in lines)
     return re.fullmatch(pattern, told) is not None
 
 
 def without_linux(text):
-    """A document without the session above Linux, which tests/on_linux types."""
+    """Returns a document without the Linux session, which tests/on_linux types."""
     return re.sub(r"^## An enclave in C on Linux\n.*?(?=^## |\Z)", "", text, flags=re.M | re.S)
 
 
 def tried(document, program):
-    """Each command of a document, whether it prints what stands below it, and what it printed."""
+    """Runs each command of a document, and yields whether its output matches, and the output."""
     with tempfile.TemporaryDirectory() as made:
         folder = Path(made)
         (folder / "examples").symlink_to(TOP / "examples")
@@ -67,7 +67,7 @@ def tried(document, program):
 def main():
     program = Path(sys.argv[1]).resolve()
     count = Count()
-    for document in ("README.md", "docs/GUIDE.md"):
+    for document in ("README.md", *sorted(f"docs/guide/{it.name}" for it in TOP.glob("docs/guide/*.md"))):
         for command, good, told in tried(TOP / document, program):
             count.note(good, f"{document}: {command}", told)
     return count.end()

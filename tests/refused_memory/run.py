@@ -1,27 +1,27 @@
 #!/usr/bin/env python3
-"""Makes each allocation, read and write of the program fail in turn, and compares.
+"""Makes each allocation, read and write of the program fail in turn, and compares the results with those of a normal run.
 
   tests/refused_memory/run.py PROGRAM
 
-Each command below is run once with all it needs, and then for K = 1, 2, .. until a run meets no refusal, with the K-th
-  allocation refused: it prints what the ample run prints, or it stops with 'out of memory' and status 4 after a beginning of
-    that, or it leaves out the hints alone; of `run` the first answer that is another may be -109, and where each call is asked
-    for twice, the second is then answered as the first of the ample run, and all behind it as there; where accesses stand
-    before and behind each call, those behind one that was refused are answered as those before it (world, entries in use,
-    owners and bytes are as they were); a comment may leave out how many entries a view needs;
-  read failed: the same, or 'cannot read' and status 3 after a beginning, with its hint where hints are told, or without the
-    hints alone;
-  write failed: the same, or 'cannot write' and status 3 after a beginning that is not all (where standard error itself fails,
-    the status of the ample run);
-  write and all behind it failed: the status of the ample run where that is above 1, else 3, after a beginning that is not all;
-    standard error can tell nothing more;
-  sync or move of the certificate failed: 'cannot write' and status 3, nothing was printed, and no certificate stands; a
-    certificate that stands was synced and moved;
-  read or write interrupted by a signal: the same;
-and once with writes that take one byte each: the same. A run never ends by a signal.
+Each command below is run once without failures (the ample run), and then for K = 1, 2, .. until a run meets no failure, with
+  the K-th allocation refused: it prints what the ample run prints, or stops with 'out of memory' and status 4 after a prefix of that,
+    or omits only the hints. For `run` the first answer that differs may be -109. If each call is made twice, the second is then
+    answered like the first of the ample run, and everything after it as there. If accesses surround each call, those after a refused
+    call are answered like those before it (world, entries in use, owners and bytes are unchanged). A comment may omit the number of
+    entries that a view needs;
+  the K-th read failed: the same, or 'cannot read' and status 3 after a prefix, with its hint if hints are on, or only the hints are
+    omitted;
+  the K-th write failed: the same, or 'cannot write' and status 3 after a proper prefix (if standard error itself fails, the status
+    of the ample run);
+  the K-th write and all after it failed: the status of the ample run if that is above 1, otherwise 3, after a proper prefix; nothing
+    more appears on standard error;
+  the K-th sync or move of the certificate failed: 'cannot write' and status 3, with no output and no certificate; a certificate that
+    exists was synced and moved;
+  the K-th read or write interrupted by a signal: the same;
+and once with writes that accept one byte each: the same. No run ever ends by a signal.
 
-The firmware's loop serves the traps in the file `traps` with each allocation at boot refused in turn; the one frame that is written says so.
-Commands are tried side by side, each in a folder of its own. The last line is 'N passed, M failed'; any failure makes the
+The firmware's loop serves the traps in the file `traps` with each allocation at boot refused in turn, and must report that in the one
+frame it writes. Commands run in parallel, each in a folder of its own. The last line is 'N passed, M failed'; any failure makes the
 status 1.
 """
 import os
@@ -35,10 +35,10 @@ from pathlib import Path
 
 HERE = Path(__file__).resolve().parent
 MONITOR = HERE.parents[1] / "crates/pmpmon_monitor"
-# The frame `end` of refused memory (docs/FORMATS.md), and how many bytes an `answer` has.
+# The frame `end` for a refused allocation (docs/formats/calls.md), and the size of an `answer` in bytes.
 END = b"end\0\0\0\0\0" + bytes([4, 0, 0, 0, 0, 0, 0, 0]) + bytes(8)
 ANSWER = 96 * 8
-# More refusals than any command meets.
+# A number of refusals that no command reaches.
 MOST = 100_000
 
 CALL = "ecall 0x08454E43"
@@ -48,13 +48,14 @@ DEVICE = '[[device]]\nbase = 0x10000000\nsize = 0x1000\nperm = "rw"\n'
 
 
 def watched(stores, calls, probes):
-    """A trace of some stores, and of each call twice, with the same accesses before the first, between the two and behind the second."""
+    """Returns a trace of some stores and of each call twice, with the same accesses before the first, between the two and after the
+    second."""
     seen = "".join(f"{it}\n" for it in probes)
     return "".join(f"{it}\n" for it in stores) + "".join(f"{seen}{CALL} {it}\n{seen}{CALL} {it}\n{seen}" for it in calls)
 
 
-# The accesses and the interrupt tell owners, bytes, the world and the entries in use: of one enclave's page, of enclaves without gaps
-# of which every second goes, and of an enclave's life.
+# The accesses and the interrupt reveal owners, bytes, the world and the entries in use: for one enclave's page, for
+# adjacent enclaves every second of which is destroyed, and for an enclave's life.
 STORE = ["store s 8 0x80200000 0x1122334455667788"]
 PAGE = ["load s 8 0x80200000", "fetch s 4 0x80200000", "load u 1 0x80201fff", "irq"]
 GAPS = ["load s 8 0x80200000", "store s 8 0x80220000 1", "load s 8 0x80218000", "load s 8 0x8021f000", "irq"]
@@ -165,7 +166,7 @@ lint --trace harts.trace --platform wrong.toml
 run platform.toml absent.trace
 """
 
-# Of these a creation or destruction may be answered -109, and the run goes on behind it.
+# A creation or destruction in these runs may be answered -109, and the run continues after it.
 RUNS = """
 run platform.toml life.trace
 run platform.toml life.trace --measure
@@ -179,22 +180,22 @@ FEW = "run platform.toml few.trace --explain"
 
 
 def unhinted(text):
-    """What was told but the hints."""
+    """Returns standard error without the hints."""
     return b"".join(it for it in text.splitlines(keepends=True) if not it.startswith(b"hint: "))
 
 
 class Run:
-    """What a run came to: its status, what it wrote, whether a call was refused."""
+    """The result of a run: its status, its output, and whether a call was refused."""
 
     def __init__(self, status, out, err, cert, beside, noted):
         self.status, self.out, self.err = status, out, err
-        # the certificate's bytes, or None; whether a file stands beside its place
+        # the certificate's bytes, or None; whether there is a file beside its place
         self.cert, self.beside, self.noted = cert, beside, noted
         self.told = unhinted(err).rstrip(b"\n")
 
 
 class Tried:
-    """A command, and how its runs compare with the ample one."""
+    """A command, and how its runs compare with the ample run."""
 
     def __init__(self, words, program, files):
         self.words, self.program, self.files = words.split(), program, files
@@ -204,7 +205,7 @@ class Tried:
     # Runs.
 
     def run(self, name, **refused):
-        """Runs the command with what the environment refuses; its files are called so."""
+        """Runs the command with the refusal in the environment; its files have this name."""
         for it in os.listdir(self.room):
             if it.startswith(f"{name}."):
                 os.remove(f"{self.room}/{it}")
@@ -216,7 +217,7 @@ class Tried:
         beside = any(it.startswith(f"{name}.cert.") for it in left)
         return Run(ended.returncode, left[f"{name}.out"], left[f"{name}.err"], left.get(f"{name}.cert"), beside, f"{name}.note" in left)
 
-    # Comparisons of what came with what the ample run wrote.
+    # Comparisons of the output with that of the ample run.
 
     def same(self):
         got, ample = self.got, self.ample
@@ -224,32 +225,32 @@ class Tried:
         return got.status == ample.status and got.out == ample.out and err == ample.err and ample.cert in (None, got.cert)
 
     def beginning(self):
-        """What was printed is a beginning of what the ample run prints."""
+        """Returns whether the output is a prefix of the ample run's."""
         return self.ample.out.startswith(self.got.out)
 
     def cut(self):
-        """A beginning that is not all: what was refused does not come later."""
+        """Returns whether the output is a proper prefix, so that the refused part does not appear later."""
         return self.beginning() and len(self.got.out) < len(self.ample.out)
 
     def whole(self):
-        """The certificate stands whole or not at all, and nothing is left beside it."""
+        """Returns whether the certificate is complete or absent, and nothing is left beside it."""
         return not self.got.beside and self.got.cert in (None, self.ample.cert)
 
     def lacks_hints(self):
-        """The hints behind the line of the trouble are left out, and nothing else is another."""
+        """Returns whether only the hints after the error are missing."""
         got, ample = self.got, self.ample
         told = unhinted(ample.err)
         return told != ample.err and got.status == ample.status and got.out == ample.out and got.err == told
 
     def explained(self):
-        """The hint of a device that failed, where hints are told: of the one whose line stands before it, alone."""
+        """Returns whether the only hint, if hints are on, is about the device in the error before it."""
         hints = [it for it in self.got.err.split(b"\n") if it.startswith(b"hint: ")]
         if " --hints always " not in f" {' '.join(self.words)} ":
             return not hints
         place = re.sub(rb"(?m): cannot [a-z]*$", b": ", re.sub(rb"(?m)^pmpmon: ", b"hint: ", self.got.told))
         return len(hints) == 1 and self.got.err.rstrip(b"\n").split(b"\n")[-1].startswith(place)
 
-    # Other answers that are allowed, by what was refused.
+    # Other results that are allowed, by the kind of refusal.
 
     def never(self):
         return False
@@ -258,14 +259,14 @@ class Tried:
         got = self.got
         if self.lacks_hints():
             return True
-        # A file for the certificate could not be made for want of memory.
+        # A file for the certificate could not be made because an allocation failed.
         if got.status == 3 and got.told == b"pmpmon: got.cert: cannot write" and not got.out and self.explained():
             return True
         return got.status == 4 and got.err == b"pmpmon: out of memory\n" and self.beginning()
 
     def first_refused(self):
-        """The number of the first answer that is another, where it is a call that was refused for want of memory, which its
-        comment says too where answers are explained."""
+        """Returns the number of the first answer that differs, if it is a call refused for lack of memory, which its comment must mention
+        if answers are explained."""
         got, ample = self.got.out.split(b"\n"), self.ample.out.split(b"\n")
         n = next((n for n, (line, other) in enumerate(zip(got, ample), 1) if line != other), None)
         comment = b" # hart [0-9], host: [^#]*: refused, out of memory" if "--explain" in self.words else b""
@@ -274,20 +275,20 @@ class Tried:
         return None
 
     def refused_for_memory(self):
-        """As stopped, or the first line that differs is such a call: `run` goes on behind it, and the calls behind it may be
-        answered otherwise."""
+        """Returns whether the run stopped as above, or the first line that differs is such a call: `run` continues after it, and later
+        calls may be answered differently."""
         if self.stopped_for_memory():
             return True
         return self.got.status in (self.ample.status, 4) and self.first_refused() is not None
 
     def refused_or_unnumbered(self):
-        """As above, or a comment does not say how many entries a view needs: to find that takes memory."""
+        """As above, or a comment omits the number of entries that a view needs, because finding it takes memory."""
         unnumbered = re.sub(rb"the (host|enclave)'s view needs [0-9]+ entries", b"too few entries", self.ample.out)
         return self.refused_for_memory() or (self.got.status == self.ample.status and self.got.out == unnumbered)
 
     def refused_once(self):
-        """As above, where each call is asked for twice: the one behind the refused one is answered as the ample run answers
-        that, and all further ones as there."""
+        """As above, if each call is made twice: the call after the refused one is answered as in the ample run, and so are all later
+        ones."""
         if self.stopped_for_memory():
             return True
         if not self.refused_for_memory():
@@ -297,7 +298,7 @@ class Tried:
         return got[n].split(b" ")[1:] == ample[n - 1].split(b" ")[1:] and got[n + 1 :] == ample[n + 1 :]
 
     def refused_unchanged(self):
-        """As above, where the same accesses stand around each call: those behind a refused one are answered as those before it."""
+        """As above, if the same accesses surround each call: those after a refused call are answered like those before it."""
         if self.stopped_for_memory():
             return True
         if not self.refused_for_memory():
@@ -305,7 +306,7 @@ class Tried:
         n, probes = self.first_refused(), WATCHED[self.words[-1]][1]
         got, ample = ([it.split(b" ")[1:] for it in run.out.split(b"\n")] for run in (self.got, self.ample))
         again = n + probes
-        # (a call that is refused in the ample run too changes nothing when it is asked again)
+        # (a call that is refused in the ample run too changes nothing when it is repeated)
         served = got[n:] == ample[n:] or (got[again] == ample[n - 1] and got[again + 1 :] == ample[again + 1 :])
         return served and got[n - 1 - probes : n - 1] == got[n:again]
 
@@ -317,10 +318,10 @@ class Tried:
 
     def stopped_for_write(self):
         got, ample = self.got, self.ample
-        # Standard error failed: its text is cut, the status stays.
+        # Standard error failed: its text is cut off, and the status is unchanged.
         if got.status == ample.status and got.out == ample.out and len(got.err) < len(ample.err):
             return True
-        # The last of the output was refused after another trouble had been told: its status stays.
+        # The end of the output was refused after another error had been reported: its status is unchanged.
         if got.status == ample.status and ample.status >= 2 and got.err == ample.err and self.cut():
             return True
         if got.status != 3 or not self.explained():
@@ -330,7 +331,7 @@ class Tried:
         return got.told == b"pmpmon: standard output: cannot write" and self.cut()
 
     def stopped_for_writes(self):
-        """All writes from one on were refused, those of standard error too: nothing is told behind it."""
+        """Returns whether the run stopped as it must if all writes from one on are refused, including those of standard error."""
         got, ample = self.got, self.ample
         if ample.status < 2:
             return got.status == 3 and self.cut() and not got.err
@@ -351,8 +352,8 @@ class Tried:
         self.lines.append(f"FAILED: {' '.join(self.words)}: {what}: status {self.got.status}, {told}")
 
     def fault_of(self, kind, k, allowed):
-        """What is wrong with a run in which the K-th call was refused, or None."""
-        # A sync or a move that was refused is never passed over.
+        """Returns what is wrong with a run in which the K-th call was refused, or None."""
+        # A refused sync or move is never ignored.
         passed_over = self.same() and kind not in ("sync", "move")
         if not passed_over and not allowed():
             return f"call {k}"
@@ -361,7 +362,7 @@ class Tried:
         return None
 
     def sweep(self, kind, allowed, on=False):
-        """Fails the K-th call of the kind for each K, or with `on` all from the K-th on; `allowed` tells the other answers."""
+        """Fails the K-th call of the kind for each K, or with `on` all from the K-th on; `allowed` accepts other results."""
         what = f"{kind} {'from' if on else 'at'}"
         for k in range(1, MOST):
             self.got = self.run("got", REFUSE=kind, REFUSE_AT=str(k), **({"REFUSE_ON": "1"} if on else {}))
@@ -377,7 +378,7 @@ class Tried:
         return self.note(False, f"{what}: no end")
 
     def begun(self):
-        """Makes the folder and the ample run, and says whether that is well."""
+        """Makes the folder and the ample run, and returns whether the latter succeeded."""
         self.room = tempfile.mkdtemp(dir=self.files)
         for it in os.listdir(self.files):
             if os.path.isfile(f"{self.files}/{it}"):
@@ -410,8 +411,8 @@ class Tried:
 
 
 class Booted:
-    """The proved loop of the firmware as a program (serve.c), which serves the traps in the file `traps`: once as it is, and with
-    each allocation at boot refused in turn."""
+    """The proved loop of the firmware as a program (serve.c), which serves the traps in the file `traps`: once normally, and with each
+    allocation at boot refused in turn."""
 
     def __init__(self, files):
         self.files = files
@@ -429,7 +430,7 @@ class Booted:
         return linked.stderr[-200:]
 
     def run(self, k=None):
-        """Its status and its output if the K-th allocation is refused."""
+        """Returns the status and the output with the K-th allocation refused."""
         environment = dict(os.environ)
         if k:
             environment.update(LD_PRELOAD=f"{self.files}/refuse.so", REFUSE="memory", REFUSE_AT=str(k))
@@ -443,7 +444,7 @@ class Booted:
         return self
 
     def all(self):
-        """Refuses one allocation after the other until the first answer comes."""
+        """Refuses one allocation after the other until the first answer appears."""
         failed = self.built()
         if failed:
             return self.note(False, f"it is not built: {failed}")
@@ -459,7 +460,7 @@ class Booted:
 
 
 def made(program, folder):
-    """Writes the files of the commands, and builds what refuses."""
+    """Writes the files of the commands, and builds the library that refuses calls."""
     for name, text in FILES.items():
         (folder / name).write_text(text, newline="")
     subprocess.run(["gcc", "-O1", "-Wall", "-shared", "-fPIC", "-o", folder / "refuse.so", HERE / "refuse.c", "-ldl"], check=True)
@@ -478,7 +479,7 @@ def main():
         made(program, folder)
         tried = lambda words: Tried(words, program, work)
         runs = [tried(it) for it in RUNS.strip().split("\n")]
-        # those that take longest come first
+        # the slowest ones first
         around = [tried(f"run example.toml {it}") for it in WATCHED]
         twice = tried(TWICE)
         begun = [pool.submit(it.once, it.refused_unchanged) for it in around]

@@ -1,9 +1,9 @@
 #!/usr/bin/env bash
-# Makes the release twice, compares the bytes, and uses what is in it as one who has nothing else.
+# Makes the release twice, compares the bytes, and uses its contents with nothing else installed.
 #
 #   tests/release/run.sh
 #
-# The last line that is printed is 'N passed, M failed'.
+# The last line printed is 'N passed, M failed'.
 set -u
 here=$(dirname "$(realpath "$0")")/../..
 work=$(mktemp -d)
@@ -11,14 +11,14 @@ trap 'rm -rf "$work"' EXIT
 passed=0
 failed=0
 
-# A release names its commit. An export of the sources, or a clone of another user's, has none that git tells.
+# A release names its commit. In an export of the sources, or in another user's clone, git does not reveal it.
 git -C "$here" rev-parse HEAD >"$work/commit" 2>&1 || {
     echo "left out: a release, since git tells no commit here: $(head -n 1 "$work/commit")"
     echo '0 passed, 0 failed'
     exit 0
 }
 
-# What is tried, and the command that has to end with 0.
+# Counts a check: its name, and the command that must exit with 0.
 try() {
     local what=$1
     shift
@@ -36,7 +36,7 @@ unpacked() {
     tar -C "$work" -xzf "$work"/one/pmpmon-*.tar.gz && mv "$work"/pmpmon-* "$work/there"
 }
 
-# The first plan of the README, by the program and the examples of the tar file alone.
+# Makes the first plan of the README with only the program and the examples of the tar file.
 plans() {
     [ "$("$work/there/bin/pmpmon" plan "$work/there/share/doc/pmpmon/examples/first-run.map" | head -n 1)" = 'entries 1' ]
 }
@@ -45,7 +45,7 @@ names_its_commit() {
     grep -q "^commit $(git -C "$here" rev-parse HEAD)" "$work/there/share/doc/pmpmon/BUILD" && grep -q '^kit rattle-kit' "$work/there/share/doc/pmpmon/BUILD"
 }
 
-# Each link of its documents, but those to the web and within a document, leads to a file of the tar file.
+# Each link of its documents, except those to the web and within a document, leads to a file of the tar file.
 links_lead() {
     local file target wrong=0
     while IFS= read -r file; do

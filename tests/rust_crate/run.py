@@ -37,12 +37,12 @@ class Cargo:
 
 
 def has(component):
-    """Whether a component of cargo is installed."""
+    """Returns whether a component of cargo is installed."""
     return subprocess.run(["cargo", component, "--version"], capture_output=True).returncode == 0
 
 
 def registers_of(program, folder):
-    """The registers that the program plans for the map of the example: their names with their values."""
+    """Returns the registers that the program plans for the map of the example: their names with their values."""
     (folder / "m.map").write_text(MAP)
     listed = subprocess.run([program, "plan", "m.map"], cwd=folder, capture_output=True, text=True, check=True).stdout.split("\n")
     rows = [line.split() for line in listed[1:] if line]
@@ -51,7 +51,7 @@ def registers_of(program, folder):
 
 
 def loaded(assembly):
-    """The registers that assembly loads, without those that get 0."""
+    """Returns the registers that assembly loads, without those that get 0."""
     pairs = re.findall(r"li t0, (0x[0-9a-f]+)\ncsrw (\w+), t0\n", assembly)
     return {name: int(value, 16) for value, name in pairs if int(value, 16)}
 

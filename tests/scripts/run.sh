@@ -1,15 +1,15 @@
 #!/usr/bin/env bash
-# Looks over the scripts of this repository: those of the shell with shellcheck, those in Python with ruff or pyflakes.
+# Checks the scripts of this repository: shell scripts with shellcheck, Python scripts with ruff or pyflakes.
 #
 #   tests/scripts/run.sh
 #
-# Those that need rt are run without it, too. What is not installed is left out, and said. The last line is 'N passed, M failed'. On Debian:
+# Scripts that need rt are also run without it. Missing tools are reported and skipped. The last line is 'N passed, M failed'. On Debian:
 #   apt-get install --no-install-recommends shellcheck python3-pyflakes
 set -u
 cd "$(dirname "$(realpath "$0")")/../.." || exit 1
 passed=0
 failed=0
-# (an export of the sources, or a clone of another user's)
+# (an export of the sources, or another user's clone)
 git ls-files >/dev/null 2>&1 || {
     echo 'left out: the scripts, since git tells no files here'
     echo '0 passed, 0 failed'
@@ -18,7 +18,7 @@ git ls-files >/dev/null 2>&1 || {
 shell=()
 python=()
 while read -r file; do
-    # (a script is known by its first line)
+    # (a script is recognized by its first line)
     IFS= read -r first <"$file" || continue
     case $first in
         '#!'*python*) python+=("$file") ;;
@@ -27,7 +27,7 @@ while read -r file; do
     esac
 done < <(git ls-files | grep -v '\.\(svg\|bin\|dtb\)$')
 
-# Runs a tool over files, and counts each.
+# Runs a tool on files, and counts each.
 over() {
     local tool=$1 file before=$failed
     shift
@@ -55,7 +55,7 @@ else
     echo 'left out: neither ruff nor pyflakes is installed'
 fi
 
-# Runs a script where rt is not on the PATH: one line says so.
+# Runs a script without rt on the PATH: one line reports that.
 without_rt() {
     local said
     said=$(PATH=/usr/bin:/bin "$@" 2>&1)

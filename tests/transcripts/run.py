@@ -1,21 +1,21 @@
 #!/usr/bin/env python3
-r"""Runs the program as the transcripts of this folder say, and compares what it answers.
+r"""Runs the program as the transcripts of this folder specify, and compares the results.
 
-  tests/transcripts/run.py PROGRAM [NAME..]      those of NAME.txt alone; all where none is named
+  tests/transcripts/run.py PROGRAM [NAME..]      runs only the given NAME.txt; without a name, all
 
-A transcript is lines:
+A transcript consists of these lines:
 
   # a remark
   file NAME                  a file, whose lines follow
-  | text                     a line of the file, or of standard output behind a command
-  $ pmpmon WORDS             a command, its words as a shell takes them, in a folder with the files before it. `< NAME` behind
-                             them is standard input, which is empty otherwise
+  | text                     a line of the file, or of standard output after a command
+  $ pmpmon WORDS             a command, with words as in a shell, run in a folder with the files before it. `< NAME` after the words
+                             is standard input, which is empty otherwise
   ! text                     a line of standard error
-  status N                   the status, where it is not 0
-  made NAME                  a file that the command has made anew, whose lines follow; it is a file from then on
+  status N                   the status, if it is not 0
+  made NAME                  a file that the command has created, whose lines follow; it is a file from then on
 
-In a line's text `\t`, `\r`, `\\` and `\xHH` are what they are in Python, and a `\` at its end says that no LF is behind it. A command
-leaves each file as it was, and makes no other. Each command is a test: its name is the remark before it. The last line is
+In the text of a line `\t`, `\r`, `\\` and `\xHH` mean the same as in Python, and a `\` at its end means that no LF follows. A command
+must leave each file unchanged and create no other. Each command is a test, named by the remark before it. The last line is
 'N passed, M failed'; any failure makes the status 1.
 """
 import os
@@ -31,13 +31,13 @@ sys.dont_write_bytecode = True
 from counting import Count  # noqa: E402
 
 HERE = Path(__file__).resolve().parent
-# No command of a transcript takes so long.
+# No command of a transcript takes this long.
 SECONDS = 60
 
 
 @dataclass
 class Command:
-    """One command of a transcript, with all that it is to answer."""
+    """One command of a transcript, with its expected results."""
 
     name: str
     place: str
@@ -51,7 +51,7 @@ class Command:
 
 
 def bytes_of(text, place):
-    """The bytes that a line of text stands for."""
+    """Returns the bytes that a line of text stands for."""
     ends = not text.endswith("\\") or text.endswith("\\\\")
     text = text if ends else text[:-1]
     try:
@@ -62,7 +62,7 @@ def bytes_of(text, place):
 
 
 def commands_of(path):
-    """The commands of a transcript."""
+    """Returns the commands of a transcript."""
     files, remark, found, into = {}, "", [], None
     for number, line in enumerate(path.read_text(encoding="latin-1").split("\n"), 1):
         place = f"{path.name}:{number}"
@@ -104,7 +104,7 @@ def commands_of(path):
 
 
 def differs(program, command):
-    """How what the program answers differs from the transcript, or None."""
+    """Returns how the results differ from the transcript, or None."""
     with tempfile.TemporaryDirectory() as room:
         for name, content in command.files.items():
             (Path(room) / name).write_bytes(content)

@@ -4,7 +4,7 @@ use crate::map::{number, Map, MapError};
 use crate::raw::pmpmon_check;
 use core::fmt;
 
-/// Why a certificate is refused. The names are those that `pmpmon check` prints.
+/// The reason why a certificate is refused. The names are those that `pmpmon check` prints.
 #[derive(Clone, Copy, Debug, PartialEq, Eq)]
 #[non_exhaustive]
 pub enum Refusal {
@@ -18,21 +18,21 @@ pub enum Refusal {
     BadTag,
     /// A leaf has a byte that is not a permission.
     BadPerm,
-    /// The nine bytes of an entry mean none.
+    /// The nine bytes of an entry are invalid.
     BadEntry,
     /// The region of an entry is smaller than a page.
     SubPageEntry,
     /// A page is split.
     TooDeep,
-    /// The block of a leaf has more than one permission.
+    /// The block of a leaf has several permissions.
     LeafNotUniform,
     /// The block of a leaf has another permission.
     WrongLeaf,
-    /// The cost of a split block is above what the costs of its halves allow.
+    /// The cost of a split block exceeds the limit from the costs of its halves.
     CostTooHigh,
-    /// The costs of the halves of a split block have too large a sum.
+    /// The sum of the costs of the halves of a split block overflows.
     CostOverflow,
-    /// There are more entries than the cost of the root says are needed.
+    /// There are more entries than the cost of the root.
     EntriesTooMany,
     /// The entries do not mean the map.
     WrongMeaning,
@@ -42,7 +42,7 @@ pub enum Refusal {
     BadLimit,
 }
 
-/// Why [`Map::check`] does not accept a certificate.
+/// The reason why [`Map::check`] does not accept a certificate.
 #[derive(Clone, Copy, Debug, PartialEq, Eq)]
 pub enum CheckError {
     /// The map is invalid, or an allocation failed.
@@ -76,7 +76,7 @@ impl Map<'_> {
     /// entries mean the map and that no shorter list does.
     pub fn check(&self, certificate: &[u8]) -> Result<u32, CheckError> {
         let (settings, mut at_fault) = (self.settings(), 0);
-        // SAFETY: the pointers are valid for the call, and what is written does not overlap anything else that is passed.
+        // SAFETY: the pointers are valid for the call, and the output does not overlap any other argument.
         let code = unsafe {
             pmpmon_check(settings.as_ptr(), settings.len(), certificate.as_ptr(), certificate.len(), &mut at_fault)
         };

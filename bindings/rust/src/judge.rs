@@ -1,4 +1,4 @@
-//! Accesses, and how registers decide them.
+//! Accesses, and their outcomes under registers.
 
 use crate::raw::{pmpmon_judge, Registers};
 use core::fmt;
@@ -15,7 +15,7 @@ pub enum Mode {
     Machine = 3,
 }
 
-/// What an access does.
+/// The kind of an access.
 #[derive(Clone, Copy, Debug, PartialEq, Eq)]
 #[repr(u64)]
 pub enum Kind {
@@ -33,7 +33,7 @@ pub enum Kind {
 pub struct Access {
     /// The mode of the hart.
     pub mode: Mode,
-    /// What the access does.
+    /// The kind of the access.
     pub kind: Kind,
     /// The number of bytes: 1, 2, 4 or 8, and 2 or 4 for a fetch.
     pub size: u64,
@@ -58,22 +58,22 @@ pub enum Cause {
     StoreFault = 7,
 }
 
-/// What becomes of an access.
+/// The outcome of an access.
 #[derive(Clone, Copy, Debug, PartialEq, Eq)]
 pub enum Outcome {
-    /// It is allowed.
+    /// The access is allowed.
     Allowed,
-    /// It ends with this exception.
+    /// The access raises this exception.
     Fault(Cause),
 }
 
-/// Why an access is not judged.
+/// The reason why an access is not judged.
 #[derive(Clone, Copy, Debug, PartialEq, Eq)]
 #[non_exhaustive]
 pub enum JudgeError {
     /// No access has this mode, kind and size.
     UnknownAccess,
-    /// An entry allows writing but not reading, which is reserved.
+    /// An entry has the reserved permission to write but not read.
     ReservedPerm,
     /// An entry has the mode TOR, which this library does not judge.
     Tor,
@@ -86,9 +86,9 @@ pub enum JudgeError {
 }
 
 impl Registers {
-    /// Decides an access on a hart with `entries` entries that has loaded these registers; at most 64 are looked at.
+    /// Decides an access on a hart with `entries` entries, at most 64, that has loaded these registers.
     pub fn judge(&self, entries: u8, access: Access) -> Result<Outcome, JudgeError> {
-        // SAFETY: both pointers are valid for the call, which only reads what they point to.
+        // SAFETY: both pointers are valid for the call, which only reads through them.
         let code = unsafe { pmpmon_judge(self, u64::from(entries), &access) };
         Ok(match code {
             0 => Outcome::Fault(Cause::FetchMisaligned),

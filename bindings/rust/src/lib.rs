@@ -8,8 +8,8 @@
 //! use pmpmon::{Access, Cause, Kind, Map, Mode, Outcome, Perm, Setting};
 //!
 //! let settings = [
-//!     Setting::new(0x8000_0000, 0x800_0000, Perm::ReadWriteExecute), // 128 MiB of RAM, of which
-//!     Setting::new(0x8000_0000, 0x20_0000, Perm::NoAccess), // firmware keeps the first 2 MiB
+//!     Setting::new(0x8000_0000, 0x800_0000, Perm::ReadWriteExecute), // 128 MiB of RAM
+//!     Setting::new(0x8000_0000, 0x20_0000, Perm::NoAccess), // the first 2 MiB belong to the firmware
 //! ];
 //! let plan = Map::new(&settings).plan(16)?;
 //! assert_eq!(plan.needed(), 2);
@@ -21,8 +21,8 @@
 //! # Ok::<(), pmpmon::MapError>(())
 //! ```
 //!
-//! The functions that plan and check allocate: with `malloc` on Linux, and with the `rattle_alloc` that a firmware supplies
-//! elsewhere. Do not call them from a signal handler.
+//! The functions that plan and check allocate: with `malloc` on Linux, otherwise with the `rattle_alloc` that the
+//! firmware supplies. Do not call them from a signal handler.
 #![no_std]
 #![warn(missing_docs)]
 

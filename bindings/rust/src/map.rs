@@ -3,7 +3,7 @@
 use crate::raw::{pmpmon_needed, pmpmon_plan, Registers};
 use core::fmt;
 
-/// What supervisor and user mode may do with a page. (Writing without reading is reserved.)
+/// The permission of supervisor and user mode on a page. (Writing without reading is reserved.)
 #[derive(Clone, Copy, Debug, PartialEq, Eq)]
 #[repr(u64)]
 pub enum Perm {
@@ -34,7 +34,7 @@ pub struct Setting {
 }
 
 impl Setting {
-    /// The setting of `size` bytes from `base` on.
+    /// Returns the setting of `size` bytes from `base` on.
     pub const fn new(base: u64, size: u64, perm: Perm) -> Setting {
         Setting { base, size, perm }
     }
@@ -53,7 +53,7 @@ pub struct Plan {
     registers: Option<Registers>,
 }
 
-/// Why a setting is invalid.
+/// The reason why a setting is invalid.
 #[derive(Clone, Copy, Debug, PartialEq, Eq)]
 #[non_exhaustive]
 pub enum MapFault {
@@ -67,7 +67,7 @@ pub enum MapFault {
     TooManyRanges,
 }
 
-/// Why there is no answer for a map.
+/// The reason why a function of a map failed.
 #[derive(Clone, Copy, Debug, PartialEq, Eq)]
 #[non_exhaustive]
 pub enum MapError {
@@ -78,12 +78,12 @@ pub enum MapError {
 }
 
 impl<'a> Map<'a> {
-    /// The map of these settings, in their order. They are checked when the map is used.
+    /// Returns the map of these settings, in their order. They are checked when the map is used.
     pub const fn new(settings: &'a [Setting]) -> Map<'a> {
         Map { settings }
     }
 
-    /// The settings of the map.
+    /// Returns the settings of the map.
     pub const fn settings(&self) -> &'a [Setting] {
         self.settings
     }
@@ -92,7 +92,7 @@ impl<'a> Map<'a> {
     /// be more than a hart has.
     pub fn needed(&self) -> Result<u32, MapError> {
         let mut at_fault = 0;
-        // SAFETY: the pointers are valid for the call, and what is written does not overlap the settings.
+        // SAFETY: the pointers are valid for the call, and the output does not overlap the settings.
         let code = unsafe { pmpmon_needed(self.settings.as_ptr(), self.settings.len(), &mut at_fault) };
         number(code, at_fault)
     }
@@ -101,7 +101,7 @@ impl<'a> Map<'a> {
     pub fn plan(&self, entries: u8) -> Result<Plan, MapError> {
         let entries = u64::from(entries.min(64));
         let (mut registers, mut at_fault) = (Registers::OFF, 0);
-        // SAFETY: the pointers are valid for the call, and what is written does not overlap anything else that is passed.
+        // SAFETY: the pointers are valid for the call, and the outputs do not overlap any other argument.
         let code =
             unsafe { pmpmon_plan(self.settings.as_ptr(), self.settings.len(), entries, &mut registers, &mut at_fault) };
         let needed = number(code, at_fault)?;
@@ -121,7 +121,7 @@ impl Plan {
     }
 }
 
-/// Turns the result of a C function into a number of entries or an error.
+/// Converts the result of a C function to a number of entries or an error.
 pub(crate) fn number(code: i64, at_fault: u64) -> Result<u32, MapError> {
     let fault = match code {
         0.. => return Ok(code as u32),

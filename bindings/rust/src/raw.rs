@@ -6,7 +6,7 @@ use crate::map::Setting;
 /// The PMP registers of an RV64 hart with up to 64 entries.
 ///
 /// To load them in machine mode, write `pmpaddr0`, `pmpaddr1`, .. from `addr`, then `pmpcfg0`, `pmpcfg2`, .. from `cfg`, and
-/// execute `sfence.vma`. Write all registers that the hart has: the zeros after the last entry turn off what was there.
+/// execute `sfence.vma`. Write all registers that the hart has: the zeros after the last entry turn off older entries.
 #[derive(Clone, Copy, Debug, PartialEq, Eq)]
 #[repr(C)]
 pub struct Registers {
@@ -17,7 +17,7 @@ pub struct Registers {
 }
 
 impl Registers {
-    /// Registers of which every entry is OFF.
+    /// Registers in which every entry is OFF.
     pub const OFF: Registers = Registers { cfg: [0; 8], addr: [0; 64] };
 }
 

@@ -1,4 +1,4 @@
-//! Each public call, its errors, and what it refuses.
+//! Tests of each public call and its errors.
 
 use pmpmon::{
     Access, Cause, CheckError, JudgeError, Kind, Map, MapError, MapFault, Mode, Outcome, Perm, Refusal, Registers,

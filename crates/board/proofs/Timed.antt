@@ -29,7 +29,7 @@ use Rattle.board.specs.Board.{Board, BoardEvent, BoardRun, HappensOn, HasMemory,
 use Rattle.board.specs.Board.{access, aside, booted, computed, gone_on, happened, memory_after, parks, saved, starts, trapped, wrote}
 use Rattle.board.specs.Headline.{read_on, written_on}
 use Rattle.board.specs.Held.{CanConfine}
-use Rattle.board.specs.Timed.{IsElsewhere, OthersRun, TimedRun, answered_on, boots, changed_lists, happens, reads, rests, runs, traps}
+use Rattle.board.specs.Timed.{HasItsList, IsElsewhere, OthersRun, TimedRun, answered_on, boots, changed_lists, happens, loads, reads, rests, runs, traps}
 use Rattle.board.proofs.Accessed.{StepsPromise, access_kept}
 use Rattle.board.proofs.Asked.{frames_of_memory}
 use Rattle.board.proofs.Boards.{BoardHolds, trap_banks}
@@ -91,22 +91,23 @@ module _ (h : ℕ) (done : Board) where
   }
 
   -- an event of another hart happens after the last step as before it
-  moved : (event : BoardEvent) (old new : Board) → Agrees old → IsElsewhere h event → HappensOn event old new
+  moved : (event : BoardEvent) (old new : Board) → Agrees old → IsElsewhere h event → HasItsList done old event → HappensOn event old new
       → HappensOn event (after old) (after new) × Agrees new
-  moved (access g a value said) old new agrees differ x =
+  moved (access g a value said) old new agrees differ its x =
       let now = agrees_on old new (ap (λ (b : Board). b.monitor) x.state) agrees in (
         record {
           up = up_after old g agrees x.up;
           below = x.below;
           entries = x.entries;
-          loaded = subst (λ l. MeansList (loaded_pairs (old.loaded g) 0 (limit_number l.limit)) x.entries) (sym agrees.layout) x.loaded;
+          loaded = subst (λ l. MeansList (loaded_pairs (done.loaded g) 0 (limit_number l.limit)) x.entries) (sym agrees.layout)
+              (subst (λ bytes. MeansList (loaded_pairs bytes 0 (limit_number old.monitor.table.layout.limit)) x.entries) its x.loaded);
           judged = x.judged;
           memory = memory_stays new (memory_after said old.memory a value) now x.memory;
           state = ap after x.state;
         },
         now,
       )
-  moved (computed g file floats) old new agrees differ x =
+  moved (computed g file floats) old new agrees differ its x =
       let now = agrees_on old new (ap (λ (b : Board). b.monitor) x.state) agrees in (
         record {
           up = up_after old g agrees x.up;
@@ -119,7 +120,7 @@ module _ (h : ℕ) (done : Board) where
         },
         now,
       )
-  moved (wrote g words) old new agrees differ x =
+  moved (wrote g words) old new agrees differ its x =
       let now = agrees_on old new (ap (λ (b : Board). b.monitor) x.state) agrees in (
         record {
           up = up_after old g agrees x.up;
@@ -134,7 +135,7 @@ module _ (h : ℕ) (done : Board) where
         },
         now,
       )
-  moved (aside g on) old new agrees differ x =
+  moved (aside g on) old new agrees differ its x =
       let now = agrees_on old new (ap (λ (b : Board). b.monitor) x.state) agrees in (
         record {
           up = up_after old g agrees x.up;
@@ -147,9 +148,9 @@ module _ (h : ℕ) (done : Board) where
         },
         now,
       )
-  moved (parks g) old new agrees none x = absurd none
-  moved (starts g file words) old new agrees none x = absurd none
-  moved (trapped trap frame read question answered) old new agrees none x = absurd none
+  moved (parks g) old new agrees none its x = absurd none
+  moved (starts g file words) old new agrees none its x = absurd none
+  moved (trapped trap frame read question answered) old new agrees none its x = absurd none
 
 -- what is put on a hart that has it
 put_same : {A : Type 0} (h k : ℕ) (f g : ℕ → A) → (k ≢ h → f k ≡ g k) → (if k == h then f k else g k) ≡ f k
@@ -169,16 +170,15 @@ at_once old trap frame read question answered done x = λ i. record done {
   hosts = λ k. put_same trap.hart k done.hosts old.hosts (x.control.others k) i;
 }
 
--- an event of another hart leaves what each hart has loaded, and which are parked
-bank_stays : (h : ℕ) (event : BoardEvent) (old new : Board) → IsElsewhere h event → HappensOn event old new
-    → (new.loaded ≡ old.loaded) × (new.parked ≡ old.parked)
-bank_stays h (access g a value said) old new differ x = (ap (λ (b : Board). b.loaded) x.state, ap (λ (b : Board). b.parked) x.state)
-bank_stays h (computed g file floats) old new differ x = (ap (λ (b : Board). b.loaded) x.state, ap (λ (b : Board). b.parked) x.state)
-bank_stays h (wrote g words) old new differ x = (ap (λ (b : Board). b.loaded) x.state, ap (λ (b : Board). b.parked) x.state)
-bank_stays h (aside g on) old new differ x = (ap (λ (b : Board). b.loaded) x.state, ap (λ (b : Board). b.parked) x.state)
-bank_stays h (parks g) old new none x = absurd none
-bank_stays h (starts g file words) old new none x = absurd none
-bank_stays h (trapped trap frame read question answered) old new none x = absurd none
+-- an event of another hart leaves which are parked
+parked_stay : (h : ℕ) (event : BoardEvent) (old new : Board) → IsElsewhere h event → HappensOn event old new → new.parked ≡ old.parked
+parked_stay h (access g a value said) old new differ x = ap (λ (b : Board). b.parked) x.state
+parked_stay h (computed g file floats) old new differ x = ap (λ (b : Board). b.parked) x.state
+parked_stay h (wrote g words) old new differ x = ap (λ (b : Board). b.parked) x.state
+parked_stay h (aside g on) old new differ x = ap (λ (b : Board). b.parked) x.state
+parked_stay h (parks g) old new none x = absurd none
+parked_stay h (starts g file words) old new none x = absurd none
+parked_stay h (trapped trap frame read question answered) old new none x = absurd none
 
 -- what holds of a board that a trap leaves, whichever pages it read
 record Leaves (layout : PlatformLayout) (h : ℕ) (done start : Board) : Type 0 where
@@ -198,70 +198,72 @@ module _ (steps : StepsPromise) (layout : PlatformLayout) (h : ℕ) (done : Boar
   in_memory byte own = private_memory done.monitor.table own.0 byte own.1 sound own.2 own.4
 
   -- no event of another hart changes it
-  still : (event : BoardEvent) (old new : Board) → old.loaded ≡ done.loaded → old.parked ≡ done.parked → IsElsewhere h event
+  still : (event : BoardEvent) (old new : Board) → old.parked ≡ done.parked → IsElsewhere h event
       → HappensOn event (answered_on h done old) (answered_on h done new) → (byte : ℕ) → IsFreshByte byte → new.memory byte ≡ old.memory byte
-  still (access g a value said) old new loaded parked differ x byte own =
+  still (access g a value said) old new parked differ x byte own =
       let low : g < layout.harts = subst (λ l. g < l.harts) platform x.up.known in
       let up : done.parked g ≡ false = sym (ap (λ p. p g) parked) ∙ x.up.started in
-      let bank = subst (λ bytes. HasFewest bytes layout.limit (current_view done.monitor.table (done.monitor.worlds g))) (sym (ap (λ l. l g) loaded))
+      let fewest = subst (λ l. HasFewest (done.loaded g) l.limit (current_view done.monitor.table (done.monitor.worlds g))) (sym platform)
       (banks g low up) in
-      let fewest = subst (λ l. HasFewest (old.loaded g) l.limit (current_view done.monitor.table (done.monitor.worlds g))) (sym platform) bank in
       let k = access_kept steps (answered_on h done old) g a value said (answered_on h done new) sound fewest x in
       stays_over_access (answered_on h done old) g a said (answered_on h done new) placed x.up.known k own.0 byte own.1 (own.2, own.4) own.3
-  still (computed g file floats) old new loaded parked differ x byte own = x.memory byte (in_memory byte own)
-  still (wrote g words) old new loaded parked differ x byte own = x.memory byte (in_memory byte own)
-  still (aside g on) old new loaded parked differ x byte own = x.memory byte (in_memory byte own)
-  still (parks g) old new loaded parked none x byte own = absurd none
-  still (starts g file words) old new loaded parked none x byte own = absurd none
-  still (trapped trap frame read question answered) old new loaded parked none x byte own = absurd none
+  still (computed g file floats) old new parked differ x byte own = x.memory byte (in_memory byte own)
+  still (wrote g words) old new parked differ x byte own = x.memory byte (in_memory byte own)
+  still (aside g on) old new parked differ x byte own = x.memory byte (in_memory byte own)
+  still (parks g) old new parked none x byte own = absurd none
+  still (starts g file words) old new parked none x byte own = absurd none
+  still (trapped trap frame read question answered) old new parked none x byte own = absurd none
 
   -- what other harts leave of a board from which they run
   record Along (start board : Board) : Type 0 where
     agrees : Agrees h done board
-    loaded : board.loaded ≡ done.loaded
     parked : board.parked ≡ done.parked
     keeps : (byte : ℕ) → IsFreshByte byte → board.memory byte ≡ start.memory byte
 
-  along : (start : Board) (events : List BoardEvent) (read : List ℕ) (board : Board) → Agrees h done start → start.loaded ≡ done.loaded
-      → start.parked ≡ done.parked → OthersRun h start events read board → Along start board
-  along start _ _ _ a loaded parked rests = record { agrees = a; loaded = loaded; parked = parked; keeps = λ byte own. refl }
-  along start _ _ _ a loaded parked (runs {events = so_far} {read = read} {mid = mid} {new = new} others event differ x) =
-      let before = along start so_far read mid a loaded parked others in
-      let next = moved h done event mid new before.agrees differ x in
-      let bank = bank_stays h event mid new differ x in
+  along : (start : Board) (events : List BoardEvent) (read : List ℕ) (board : Board) → Agrees h done start → start.parked ≡ done.parked
+      → OthersRun h done start events read board → Along start board
+  along start _ _ _ a parked rests = record { agrees = a; parked = parked; keeps = λ byte own. refl }
+  along start _ _ _ a parked (loads {events = so_far} {read = read} {mid = mid} others other) =
+      let before = along start so_far read mid a parked others in
+      record { agrees = record { layout = before.agrees.layout; worlds = before.agrees.worlds }; parked = before.parked; keeps = before.keeps }
+  along start _ _ _ a parked (runs {events = so_far} {read = read} {mid = mid} {new = new} others event differ its x) =
+      let before = along start so_far read mid a parked others in
+      let next = moved h done event mid new before.agrees differ its x in
       record {
         agrees = next.1;
-        loaded = bank.0 ∙ before.loaded;
-        parked = bank.1 ∙ before.parked;
-        keeps = λ byte own. still event mid new before.loaded before.parked differ next.0 byte own ∙ before.keeps byte own;
+        parked = parked_stay h event mid new differ x ∙ before.parked;
+        keeps = λ byte own. still event mid new before.parked differ next.0 byte own ∙ before.keeps byte own;
       }
-  along start _ _ _ a loaded parked (reads {events = so_far} {read = read} {mid = mid} others frame size has) =
-      along start so_far read mid a loaded parked others
+  along start _ _ _ a parked (reads {events = so_far} {read = read} {mid = mid} others frame size has) =
+      along start so_far read mid a parked others
 
   -- pages that are read in between are as they were, if they are private to an enclave that was not entered
-  as_they_were : (start : Board) (events : List BoardEvent) (read : List ℕ) (board : Board) → Agrees h done start → start.loaded ≡ done.loaded
-      → start.parked ≡ done.parked → OthersRun h start events read board → (memory : ℕ → ℕ) → ((byte : ℕ) → IsFreshByte byte → start.memory byte ≡ memory byte)
+  as_they_were : (start : Board) (events : List BoardEvent) (read : List ℕ) (board : Board) → Agrees h done start → start.parked ≡ done.parked
+      → OthersRun h done start events read board → (memory : ℕ → ℕ) → ((byte : ℕ) → IsFreshByte byte → start.memory byte ≡ memory byte)
       → (first all : ℕ) (known : List ℕ) (pages : List (List ℕ)) → known ≡ read → ArePages first all known pages
       → ((byte : ℕ) → first ≤ byte / 4096 → byte / 4096 < first + all → IsFreshByte byte)
       → (from many : ℕ) (these : List ℕ) (got : List (List ℕ)) → these ≡ read → ArePages from many these got
       → got ≡ pages_from (λ page. bytes_at memory (page * 4096) 4096) from many
-  as_they_were start _ _ _ a loaded parked rests memory same first all known pages is are fresh from _ _ _ that no_page = refl
-  as_they_were start _ _ _ a loaded parked rests memory same first all known pages is are fresh from _ _ _ that
+  as_they_were start _ _ _ a parked rests memory same first all known pages is are fresh from _ _ _ that no_page = refl
+  as_they_were start _ _ _ a parked rests memory same first all known pages is are fresh from _ _ _ that
       (next_page {read = r} these frame bytes frame_is) = no_frame r frame frame_is.size that
-  as_they_were start _ _ _ a loaded parked (runs {events = so_far} {read = read} {mid = mid} {new = new} others event differ x) memory same first all known
+  as_they_were start _ _ _ a parked (loads {events = so_far} {read = read} {mid = mid} others other) memory same first all known pages is are fresh from
+      many these got that got_are =
+      as_they_were start so_far read mid a parked others memory same first all known pages is are fresh from many these got that got_are
+  as_they_were start _ _ _ a parked (runs {events = so_far} {read = read} {mid = mid} {new = new} others event differ its x) memory same first all known
       pages is are fresh from many these got that got_are =
-      as_they_were start so_far read mid a loaded parked others memory same first all known pages is are fresh from many these got that got_are
-  as_they_were start _ _ _ a loaded parked (reads {read = read} others frame size has) memory same first _ _ _ is no_page fresh from many these got that
+      as_they_were start so_far read mid a parked others memory same first all known pages is are fresh from many these got that got_are
+  as_they_were start _ _ _ a parked (reads {read = read} others frame size has) memory same first _ _ _ is no_page fresh from many these got that
       got_are = no_frame read frame size (sym is)
-  as_they_were start _ _ _ a loaded parked (reads {read = read} others frame size has) memory same first _ _ _ is
+  as_they_were start _ _ _ a parked (reads {read = read} others frame size has) memory same first _ _ _ is
       (next_page {read = r} are other bytes other_is) fresh from _ _ _ that no_page = no_frame read frame size (sym that)
-  as_they_were start _ _ _ a loaded parked (reads {events = so_far} {read = read} {mid = mid} others frame size has) memory same first _ _ _ is
+  as_they_were start _ _ _ a parked (reads {events = so_far} {read = read} {mid = mid} others frame size has) memory same first _ _ _ is
       (next_page {count = count} {read = r} {pages = pages} are other bytes other_is) fresh from _ _ _ that
       (next_page {count = many} {read = r2} {pages = got} got_are this these this_is) =
       let known = ends r read other frame (other_is.size ∙ sym size) is in
       let own = ends r2 read this frame (this_is.size ∙ sym size) that in
       let page : from + many ≡ first + count = sym this_is.number ∙ ap (λ f. word_at f 1) (own.1 ∙ sym known.1) ∙ other_is.number in
-      let was = along start so_far read mid a loaded parked others in
+      let was = along start so_far read mid a parked others in
       let held : these ≡ bytes_at mid.memory ((from + many) * 4096) 4096 = has (from + many) these
       (subst (λ f. IsPageFrame f (from + many) these) own.1 this_is) in
       let stays : bytes_at mid.memory ((from + many) * 4096) 4096 ≡ bytes_at memory ((from + many) * 4096) 4096 =
@@ -271,7 +273,7 @@ module _ (steps : StepsPromise) (layout : PlatformLayout) (h : ℕ) (done : Boar
       was.keeps byte its ∙ same byte its) in
       subst (λ n. got ++ these ∷ [] ≡ pages_from (λ page. bytes_at memory (page * 4096) 4096) from n) (next many)
       (ap₂ (λ ps b. ps ++ b ∷ [])
-      (as_they_were start so_far read mid a loaded parked others memory same first count r pages known.0 are
+      (as_they_were start so_far read mid a parked others memory same first count r pages known.0 are
       (λ byte low high. fresh byte low (omega (arith, high))) from many r2 got own.0 got_are)
       (held ∙ stays))
 
@@ -289,7 +291,7 @@ module _ (law : BoardHolds) (firmware : FirmwareHolds) (steps : StepsPromise) (l
   -- what a trap leaves, and the pages that were read in it
   trapped_there : (events : List BoardEvent) (old done : Board) (run : Run events old) → Confine old → (trap : Trap)
       (frame read question answered : List ℕ) → TrapDuties old trap frame read question answered done
-      → (others : List BoardEvent) (last : Board) → OthersRun trap.hart (changed_lists old done) others read last
+      → (others : List BoardEvent) (last : Board) → OthersRun trap.hart done (changed_lists old done) others read last
       → Leaves layout trap.hart done (changed_lists old done) × ReadsMemory old.memory read
   trapped_there events old done run can trap frame read question answered x others last between =
       let before = law layout opened events old run rules answer can in
@@ -309,7 +311,7 @@ module _ (law : BoardHolds) (firmware : FirmwareHolds) (steps : StepsPromise) (l
         elim (read_new trap.event (saved old trap) trap x.changes read question answered done.monitor before.table (call_there old trap) one) [
           | inl none ↦ subst (ReadsMemory old.memory) (sym none) (frames_of_memory old.memory 0 0)
           | inr new ↦ λ from many got are.
-              as_they_were steps layout trap.hart done f.table f.worlds f.platform banks (changed_lists old done) others read last agrees refl (sym x.parked)
+              as_they_were steps layout trap.hart done f.table f.worlds f.platform banks (changed_lists old done) others read last agrees (sym x.parked)
               between old.memory
               (λ byte own. memory_is old trap frame read question answered done x k byte
               (in_memory steps layout trap.hart done f.table f.worlds f.platform banks byte own)
@@ -331,23 +333,30 @@ module _ (law : BoardHolds) (firmware : FirmwareHolds) (steps : StepsPromise) (l
 
   -- what other harts do
   others_run : (h : ℕ) (done start : Board) (events others : List BoardEvent) (read : List ℕ) (last : Board) → Agrees h done start
-      → Run events (answered_on h done start) → OthersRun h start others read last → Run (events ++ others) (answered_on h done last) × Agrees h done last
+      → Run events (answered_on h done start) → OthersRun h done start others read last → Run (events ++ others) (answered_on h done last) × Agrees h done last
   others_run h done start events _ _ _ a run rests = (subst (λ all. Run all (answered_on h done start)) (sym (append-nil events)) run, a)
-  others_run h done start events _ _ _ a run (runs {events = so_far} {read = read} {mid = mid} {new = new} others event differ x) =
+  others_run h done start events _ _ _ a run (loads {events = so_far} {read = read} {mid = mid} others other) =
+      let before = others_run h done start events so_far read mid a run others in (
+        before.0,
+        record { layout = before.1.layout; worlds = before.1.worlds },
+      )
+  others_run h done start events _ _ _ a run (runs {events = so_far} {read = read} {mid = mid} {new = new} others event differ its x) =
       let before = others_run h done start events so_far read mid a run others in
-      let next = moved h done event mid new before.1 differ x in (
+      let next = moved h done event mid new before.1 differ its x in (
         subst (λ all. Run all (answered_on h done new)) (append_assoc events so_far (event ∷ [])) (happened before.0 event next.0),
         next.1,
       )
   others_run h done start events _ _ _ a run (reads {events = so_far} {read = read} {mid = mid} others frame size has) =
       others_run h done start events so_far read mid a run others
 
-  others_csrs : (h : ℕ) (start : Board) (others : List BoardEvent) (read : List ℕ) (last : Board) → OthersRun h start others read last
+  others_csrs : (h : ℕ) (done start : Board) (others : List BoardEvent) (read : List ℕ) (last : Board) → OthersRun h done start others read last
       → last.csrs ≡ start.csrs
-  others_csrs h start _ _ _ rests = refl
-  others_csrs h start _ _ _ (runs {events = so_far} {read = read} {mid = mid} {new = new} others event differ x) =
-      csrs_stay event mid new x ∙ others_csrs h start so_far read mid others
-  others_csrs h start _ _ _ (reads {events = so_far} {read = read} {mid = mid} others frame size has) = others_csrs h start so_far read mid others
+  others_csrs h done start _ _ _ rests = refl
+  others_csrs h done start _ _ _ (loads {events = so_far} {read = read} {mid = mid} others other) = others_csrs h done start so_far read mid others
+  others_csrs h done start _ _ _ (runs {events = so_far} {read = read} {mid = mid} {new = new} others event differ its x) =
+      csrs_stay event mid new x ∙ others_csrs h done start so_far read mid others
+  others_csrs h done start _ _ _ (reads {events = so_far} {read = read} {mid = mid} others frame size has) =
+      others_csrs h done start so_far read mid others
 
   pub unseen : (events : List BoardEvent) (board : Board) → TimedRun layout opened events board → Confine board → Run events board
   unseen _ _ (boots board x) can = booted board x
@@ -357,7 +366,7 @@ module _ (law : BoardHolds) (firmware : FirmwareHolds) (steps : StepsPromise) (l
       let first = word_at answered 6 in
       let count = word_at answered 7 in
       let same : new.csrs ≡ t.ready.csrs = ap (λ (b : Board). b.csrs) t.answers
-      ∙ others_csrs trap.hart (changed_lists t.ready t.done) others read t.last t.between in
+      ∙ others_csrs trap.hart t.done (changed_lists t.ready t.done) others read t.last t.between in
       let confine = confine_by t.ready new same can in
       let was = unseen events old run (confine_by old t.ready (zeroes_csrs trap.hart first count old before t.ready t.zeroing) confine) in
       let begun = not_yet trap.hart first count layout opened old events before t.ready was t.zeroing in

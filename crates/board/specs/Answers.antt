@@ -12,13 +12,13 @@ use Rattle.trap_server.specs.declared.trap.Trap.{Trap}
 -- the words of the answer to a trap, between these states of the monitor
 pub record IsWellFormed (layout : PlatformLayout) (old : MonitorState) (trap : Trap)
     (new : MonitorState) (answered : List ℕ) : Type 0 where
-  -- it has at most two lists, and is as long as its lists and control words
+  -- the answer has at most two lists, and its size matches its lists and control words
   pub lists : word_at answered 9 ≤ 2
   pub size : length answered ≡ 184 + 584 * word_at answered 9 + 8 * word_at answered 10
-  -- the hart is the one that trapped, and its world is the host or an enclave by its id
+  -- the hart is the one that trapped, and its world is the host or the id of an enclave
   pub hart : word_at answered 1 ≡ trap.hart
   pub world : word_at answered 2 ≤ 64
-  -- a hart has as many entries as that world needs
+  -- the world needs no more entries than a hart has
   pub used : word_at answered 5 ≤ limit_number layout.limit
   -- if there are two lists, the value is the id of an enclave
   pub made : word_at answered 9 ≡ 2 → (1 ≤ word_at answered 4) × (word_at answered 4 ≤ 64)
@@ -34,7 +34,7 @@ pub record IsWellFormed (layout : PlatformLayout) (old : MonitorState) (trap : T
   pub second : word_at answered 15 ≤ 4
   pub third : word_at answered 19 ≤ 4
 
--- so it is for each trap that was served
+-- the answer to each served trap is well-formed
 abbrev pub AreWellFormed : PlatformLayout → {old : MonitorState} {read written : List ℕ}
     {new : MonitorState} → ServesTraps old read written new → Type 0
 AreWellFormed layout no_trap = ⊤
@@ -42,7 +42,7 @@ AreWellFormed layout
     (next_trap {mid = mid} served trap frame more question answered changes new size is step) =
     AreWellFormed layout served × IsWellFormed layout mid trap new answered
 
--- so it is on every platform that keeps its rules
+-- every answer is well-formed, on every platform that obeys its rules
 abbrev pub AnswersWell : Type 0
 AnswersWell =
     (layout : PlatformLayout) (opened read written : List ℕ) (s : MonitorState)

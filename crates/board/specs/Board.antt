@@ -1,4 +1,5 @@
--- A board: harts that load what the monitor answers, memory, and worlds that run between its traps.
+-- A board: harts that load lists of PMP entries from the monitor's answers, memory, and worlds that
+-- run between traps.
 use Rattle.std.specs.Prelude.{◌≡◌, ◌≢◌, ◌⊎◌, ℕ, ◌*◌, ◌/◌, ◌<◌, ◌==◌, if◌then◌else◌, ⊤}
 use Rattle.std.specs.Prelude.{Bool, true, false, List, [], ◌++◌, ◌∷◌, drop, length, Option, None}
 use Rattle.std.specs.Prelude.{Some, Result, Ok, Err}
@@ -35,34 +36,34 @@ use Rattle.trap_server.specs.Service.{ServesAll}
 use Rattle.trap_server.specs.Traps.{IsTrapFrame}
 use Rattle.trap_server.specs.Words.{word_at}
 
--- what is in registers of floating point: in f0 to f31 by their numbers, and in fcsr after them
+-- the values of floating-point registers: f0 to f31 by number, then fcsr
 abbrev pub Floats : Type 0
 Floats = ℕ → ℕ
 
--- zero in each
+-- zero in each register
 abbrev pub no_floats : Floats
 no_floats n = 0
 
 -- a board at one moment
 pub record Board : Type 0 where
-  -- the state of the monitor, whose register sets lie with the harts. What is kept of the registers
-  -- of a world that runs means nothing until its next trap
+  -- the state of the monitor, with the register sets of all harts. The set of a running world has
+  -- no meaning until its next trap
   pub monitor : MonitorState
   -- the byte at each address
   pub memory : ℕ → ℕ
-  -- the bytes of the list of entries that is kept for each world by its number, 0 for the host, and
-  -- of the list that each hart loaded last
+  -- the bytes of the list of entries that is stored for each world by its number, 0 for the host,
+  -- and of the list that each hart loaded last
   pub lists : ℕ → List ℕ
   pub loaded : ℕ → List ℕ
-  -- whether the host has stopped a hart, or has not started it yet
+  -- true for a hart that the host has stopped, or has not started yet
   pub parked : ℕ → Bool
   -- the integer registers of each hart
   pub running : ℕ → RegisterFile
-  -- the floating-point registers of each hart, and those that are kept for each host and enclave
+  -- the floating-point registers of each hart, and those stored for each host and enclave
   pub floats : ℕ → Floats
   pub kept : Runner → Floats
-  -- the words in the control registers of each hart, those that it keeps for its host while an
-  -- enclave runs there, and which bits of these registers can be written
+  -- the control registers of each hart, the words that it stores for its host while an enclave runs
+  -- there, and the writable bits of these registers
   pub control : ℕ → ControlWords
   pub hosts : ℕ → ControlWords
   pub csrs : ℕ → ControlRegisters
@@ -83,27 +84,27 @@ pub record IsUp (board : Board) (hart : ℕ) : Type 0 where
   pub known : hart < board.monitor.table.layout.harts
   pub started : board.parked hart ≡ false
 
--- the PMP registers of a hart have this list
+-- the PMP registers of a hart contain this list
 abbrev pub HasEntries : Board → ℕ → List Entry → Type 0
 HasEntries board hart entries = MeansList
     (loaded_pairs (board.loaded hart) 0 (limit_number board.monitor.table.layout.limit)) entries
 
--- how a world resumes after a trap that its hart serves without the loop
+-- the ways in which a world resumes after a trap that its hart serves without the loop
 pub data Resumption : Type 0 where
-  -- a host resumes after an SBI call, with these words in a0 and a1: the call set its timer, asked
-  -- for an interrupt or a fence on another hart, queried the SBI, or failed
+  -- a host resumes after an SBI call, with these words in a0 and a1: the call set its timer,
+  -- requested an interrupt or a fence on another hart, queried the SBI, or failed
   replied : (first second : ℕ) → Resumption
   -- a host resumes in its own handler, to which the trap was forwarded or delegated
   handled : (pc : ℕ) → Resumption
-  -- any world resumes after an interrupt for machine mode: another hart asked for a fence or for an
+  -- any world resumes after an interrupt for machine mode: another hart requested a fence or an
   -- interrupt of this hart's host, or the host's timer expired
   resumed : Resumption
 
--- what happens on a board
+-- an event on a board
 pub data BoardEvent : Type 0 where
-  -- an access, with the value that a store puts and what the entries say of it
+  -- an access, with the value to store and the verdict of the entries
   access : (hart : ℕ) (a : Access) (value : ℕ) (said : Result (Unit {0}) Cause) → BoardEvent
-  -- a computation, which leaves these in the registers of a hart
+  -- a computation that leaves these values in the registers of a hart
   computed : (hart : ℕ) (file : RegisterFile) (floats : Floats) → BoardEvent
   -- a write that leaves these words in the control registers of a hart
   wrote : (hart : ℕ) (words : ControlWords) → BoardEvent
@@ -113,23 +114,23 @@ pub data BoardEvent : Type 0 where
   parks : (hart : ℕ) → BoardEvent
   -- a host starts another hart, which begins with these registers and control words
   starts : (hart : ℕ) (file : RegisterFile) (words : ControlWords) → BoardEvent
-  -- a trap that the loop serves, with the bytes of its frame, those of its pages, the question for
-  -- them and the answer
+  -- a trap that the loop serves, with the bytes of its frame and of its pages, the question for the
+  -- pages, and the answer
   trapped : (trap : Trap) (frame read question answered : List ℕ) → BoardEvent
 
--- memory after an access that is allowed: a store puts its bytes, and no other changes any
+-- memory after an allowed access: a store writes its bytes, and other accesses change nothing
 abbrev pub put_by : Kind → (ℕ → ℕ) → Access → ℕ → ℕ → ℕ
 put_by Fetch memory a value = memory
 put_by Load memory a value = memory
 put_by Store memory a value = stored memory a.address a.size value
 
--- memory after an access, by what the entries say of it: a fault changes nothing
+-- memory after an access, given the verdict of the entries: a fault changes nothing
 abbrev pub memory_after : Result (Unit {0}) Cause → (ℕ → ℕ) → Access → ℕ → ℕ → ℕ
 memory_after (Err cause) memory a value = memory
 memory_after (Ok done) memory a value = put_by a.kind memory a value
 
--- a world below machine mode makes an access, of any kind, address and value, and the entries of
--- its hart say of it what they say. Only memory changes
+-- a world below machine mode makes an access of any kind, address and value, and the entries of its
+-- hart give the verdict. Only memory changes
 pub record DoesAccess (old : Board) (hart : ℕ) (a : Access) (value : ℕ)
     (said : Result (Unit {0}) Cause) (new : Board) : Type 0 where
   pub up : IsUp old hart
@@ -140,7 +141,7 @@ pub record DoesAccess (old : Board) (hart : ℕ) (a : Access) (value : ℕ)
   pub memory : HasMemory new (memory_after said old.memory a value)
   pub state : new ≡ record old { memory = new.memory }
 
--- the world of a hart puts anything into its integer and floating-point registers
+-- the world of a hart computes any values for its integer and floating-point registers
 pub record DoesCompute (old : Board) (hart : ℕ) (file : RegisterFile) (floats : Floats)
     (new : Board) : Type 0 where
   pub up : IsUp old hart
@@ -151,14 +152,14 @@ pub record DoesCompute (old : Board) (hart : ℕ) (file : RegisterFile) (floats 
     floats = λ h. if h == hart then floats else old.floats h;
   }
 
--- which control words a world can write to those that a hart has. A host may write any. An enclave
--- runs in user mode, which can write none; but the hart records in status that floating-point
--- registers changed
+-- the control words that a world may write over those of a hart. A host may write any. An enclave
+-- runs in user mode, which can write none; but the hart records changes of the floating-point
+-- registers in status
 abbrev pub MayWrite : World → ControlWords → ControlWords → Type 0
 MayWrite Host had words = ⊤
 MayWrite (InEnclave id) had words = words ≡ record had { status = words.status }
 
--- the world of a hart puts other words into its control registers, which can hold them
+-- the world of a hart writes other words to its control registers, which can hold them
 pub record DoesWrite (old : Board) (hart : ℕ) (words : ControlWords) (new : Board) : Type 0 where
   pub up : IsUp old hart
   pub may : MayWrite (old.monitor.worlds hart) (old.control hart) words
@@ -175,14 +176,14 @@ gone_on (replied first second) file = with_x (with_x (past_call file) 10 first) 
 gone_on (handled pc) file = record file { pc = pc }
 gone_on resumed file = file
 
--- which worlds can resume like that: an enclave only after an interrupt
+-- the resumptions that are possible for a world: an enclave resumes only after an interrupt
 abbrev pub MayGoOn : World → Resumption → Type 0
 MayGoOn Host on = ⊤
 MayGoOn (InEnclave id) on = on ≡ resumed
 
--- a hart serves a trap without the loop. It changes a0, a1 and the program counter of the host that
--- called, or enters the host's handler, and nothing else. The control words that change as a host
--- enters its handler are an event of their own
+-- a hart serves a trap without the loop. It changes only a0, a1 and the program counter of the host
+-- that called, or enters the host's handler. The change of control words on entry to the host's
+-- handler is a separate event
 pub record DoesAside (old : Board) (hart : ℕ) (on : Resumption) (new : Board) : Type 0 where
   pub up : IsUp old hart
   pub may : MayGoOn (old.monitor.worlds hart) on
@@ -192,7 +193,7 @@ pub record DoesAside (old : Board) (hart : ℕ) (on : Resumption) (new : Board) 
     running = λ h. if h == hart then gone_on on (old.running h) else old.running h;
   }
 
--- a host stops its hart, and no world runs there any more
+-- a host stops its hart, where no world runs from then on
 pub record DoesPark (old : Board) (hart : ℕ) (new : Board) : Type 0 where
   pub up : IsUp old hart
   pub host : old.monitor.worlds hart ≡ Host
@@ -203,7 +204,7 @@ pub record DoesPark (old : Board) (hart : ℕ) (new : Board) : Type 0 where
   }
 
 -- a parked hart is started. It loads the host's list. Its host begins with any integer registers
--- and control words, and with zero in its floating-point registers
+-- and control words, and with zeros in its floating-point registers
 pub record DoesStart (old : Board) (hart : ℕ) (file : RegisterFile) (words : ControlWords)
     (new : Board) : Type 0 where
   pub known : hart < old.monitor.table.layout.harts
@@ -220,12 +221,13 @@ pub record DoesStart (old : Board) (hart : ℕ) (file : RegisterFile) (words : C
     control = λ h. if h == hart then words else old.control h;
   }
 
--- who goes on on a hart, by the number of the world in an answer: 0 is the host of that hart
+-- the host or enclave that resumes on a hart, by the world's number in an answer: 0 is the host of
+-- that hart
 abbrev pub runner_by : ℕ → ℕ → Runner
 runner_by hart world = if world == 0 then HostOf hart else EnclaveOf world
 
--- a trap says that this enclave was made: pages were asked for, and the value of the answer is its
--- number
+-- a trap reports that this enclave was created: it asked for pages, and the value of the answer is
+-- the enclave's number
 abbrev pub SaysMade : List ℕ → List ℕ → Runner → Type 0
 SaysMade question answered who = (question ≢ []) × (who ≡ EnclaveOf (word_at answered 4))
 
@@ -234,9 +236,9 @@ abbrev pub HasEnded : MonitorState → MonitorState → Runner → Type 0
 HasEnded old new who = (id : ℕ) × (who ≡ EnclaveOf id)
     × (IsGone old new id ⊎ HasExited old new id)
 
--- floating-point registers over a trap. If word 2 of the answer names another world, the hart's
--- registers are kept for the world that trapped, and the hart gets those that are kept for the
--- other. Zeros are kept for an enclave that was created, and for one that ended, whose integer
+-- floating-point registers across a trap. If word 2 of the answer names another world, the hart's
+-- registers are stored for the world that trapped, and the hart gets those stored for the other
+-- world. Zeros are stored for an enclave that was created, and for one that ended, whose integer
 -- registers are zeroed too. Nothing else changes
 pub record ChangesFloats (old : Board) (hart : ℕ) (who next : Runner)
     (question answered : List ℕ) (new : Board) : Type 0 where
@@ -251,9 +253,10 @@ pub record ChangesFloats (old : Board) (hart : ℕ) (who next : Runner)
   pub others : (other : Runner) → other ≢ who → (SaysMade question answered other → ⊥)
       → (HasEnded old.monitor new.monitor other → ⊥) → new.kept other ≡ old.kept other
 
--- control words over a trap, by the answer. If it has some, they are written to the hart, and the
--- hart's own are kept for its host. If it has none, the hart's stay while the same world resumes,
--- and the kept ones are written to the hart when another does. Those of other harts stay
+-- control words across a trap, given the answer. If the answer has some, they are written to the
+-- hart, whose own words are stored for its host. Otherwise the hart's words stay if the same world
+-- resumes, and the stored ones are written to the hart if another world does. Other harts keep
+-- theirs
 pub record ChangesControl (old : Board) (hart : ℕ) (who next : Runner)
     (said : Option ControlWords) (new : Board) : Type 0 where
   pub gets : (words : ControlWords) → said ≡ Some words
@@ -266,24 +269,24 @@ pub record ChangesControl (old : Board) (hart : ℕ) (who next : Runner)
   pub harts : (other : ℕ) → other ≢ hart → new.control other ≡ old.control other
   pub others : (other : ℕ) → other ≢ hart → new.hosts other ≡ old.hosts other
 
--- integer registers over a trap on a hart: the world that resumes has those of its set, and each
+-- integer registers across a trap on a hart: the world that resumes gets those of its set, and each
 -- other hart keeps its own
 pub record ChangesRunning (old : Board) (hart : ℕ) (next : Runner) (new : Board) : Type 0 where
   pub resumes : new.running hart ≡ new.monitor.registers next
   pub others : (other : ℕ) → other ≢ hart → new.running other ≡ old.running other
 
--- those of the control words that the frame of a trap has
+-- the control words that are part of a trap's frame
 abbrev pub framed : ControlWords → HostWords
 framed words = record { mie = words.mie; scounteren = words.scounteren }
 
--- the frames of pages that were read have the bytes of memory, whichever pages they are
+-- the frames of the pages that were read contain the bytes of memory, whichever pages they are
 abbrev pub ReadsMemory : (ℕ → ℕ) → List ℕ → Type 0
 ReadsMemory memory read =
     (first count : ℕ) (pages : List (List ℕ)) → ArePages first count read pages
     → pages ≡ pages_from (λ page. bytes_at memory (page * 4096) 4096) first count
 
--- the register sets as a trap finds them: the registers of the world that trapped are saved in its
--- own. Its frame has a0 to a7 of them
+-- the register sets at a trap: those of the world that trapped are saved in its own set. The frame
+-- contains its a0 to a7
 abbrev pub saved : Board → Trap → MonitorState
 saved old trap = with_running old.monitor trap.hart trap.registers
 
@@ -297,22 +300,22 @@ pub record TrapDuties (old : Board) (trap : Trap) (frame read question answered 
   -- the trap has the hart's registers, and two of the hart's control words if its host trapped
   pub came : trap.registers ≡ old.running trap.hart
   pub host : old.monitor.worlds trap.hart ≡ Host → trap.host ≡ framed (old.control trap.hart)
-  -- the loop serves it, whatever the register sets are, and they change as the answer says
+  -- the loop serves the trap, whatever the register sets are, and they change according to the
+  -- answer
   pub changes : SetChanges
   pub served : ServesAll old.monitor trap changes read question answered new.monitor
   pub sets : new.monitor.registers ≡ changed trap.hart changes (saved old trap).registers
-  -- the pages that words 6 and 7 of the answer name are zeroed, and no other byte of memory
-  -- changes
+  -- the pages that words 6 and 7 of the answer name are zeroed, and no other byte of memory changes
   pub cleared : HasMemory new
       (zeroed old.memory (word_at answered 6) (word_at answered 7))
-  -- the answer's lists are kept for their worlds. The hart that the answer names loads the list
+  -- the answer's lists are stored for their worlds. The hart that the answer names loads the list
   -- of the world that it names, and each hart that it wakes loads the host's, before its world
   -- resumes. A parked hart may have any list
   pub keeps : (world : ℕ) → new.lists world ≡ list_after answered old.lists world
   pub loads : (hart : ℕ) → old.parked hart ≡ false → new.loaded hart
       ≡ loaded_after answered new.lists (old.loaded hart) hart
   pub parked : new.parked ≡ old.parked
-  -- registers change as the world of the hart does
+  -- registers change with the world of the hart
   pub running : ChangesRunning old trap.hart (runner_by trap.hart (word_at answered 2)) new
   pub floats : ChangesFloats old trap.hart (runner_on old.monitor trap.hart)
       (runner_by trap.hart (word_at answered 2)) question answered new
@@ -338,7 +341,7 @@ HappensOn (trapped trap frame read question answered) old new =
     DoesTrap old trap frame read question answered new
 
 -- a board right after boot: the monitor is in its opening state, the list of the first answer is
--- kept for each world, and each hart that is not parked has loaded it. Memory and registers have
+-- stored for each world, and each hart that is not parked has loaded it. Memory and registers have
 -- any values that they can hold, and any harts are parked
 pub record IsBooted (layout : PlatformLayout) (opened : List ℕ) (board : Board) : Type 0 where
   pub monitor : board.monitor ≡ opening_monitor layout
@@ -346,7 +349,7 @@ pub record IsBooted (layout : PlatformLayout) (opened : List ℕ) (board : Board
   pub loaded : (hart : ℕ) → board.parked hart ≡ false → board.loaded hart ≡ drop 184 opened
   pub control : (hart : ℕ) → CanHold (board.csrs hart) (board.control hart)
 
--- events that happen one after another on a board, after boot
+-- a sequence of events on a board, after boot
 pub data BoardRun (layout : PlatformLayout) (opened : List ℕ) : List BoardEvent → Board
     → Type 0 where
   booted : (board : Board) → IsBooted layout opened board → BoardRun layout opened [] board

@@ -1,4 +1,4 @@
--- What holds of a board after boot and any list of events.
+-- The properties of a board after boot and any list of events.
 use Rattle.std.specs.Prelude.{◌≡◌, ◌≢◌, ◌⊎◌, ℕ, ◌/◌, ◌<◌, true, if◌then◌else◌, List, [], ◌++◌}
 use Rattle.std.specs.Prelude.{zero, suc, ◌==◌, ◌&&◌, false, None, Result, Ok, Err, ⊤}
 use Rattle.pmp_match.specs.declared.access.Access.{Access}
@@ -34,21 +34,20 @@ use Rattle.board.specs.Board.{access, aside, booted, computed, framed, gone_on, 
 use Rattle.board.specs.Board.{parks, saved, starts, trapped, wrote}
 use Rattle.board.specs.Held.{CanHold, Confines, held}
 
--- what a host or an enclave has in registers of floating point, by what is in each hart's and what
--- is kept: of the harts below n that of the one on which it runs, and what is kept for it where it
--- runs on none
+-- the floating-point registers of a host or an enclave, given those of each hart and those stored:
+-- those of the hart below n on which it runs, or the stored ones if it runs on none of them
 abbrev pub floats_below : ℕ → (ℕ → World) → (ℕ → Floats) → (Runner → Floats) → Runner → Floats
 floats_below zero worlds floats kept who = kept who
 floats_below (suc n) worlds floats kept who = if is_same who (runner_of n (worlds n)) then floats n
     else floats_below n worlds floats kept who
 
--- what it has on a board
+-- the floating-point registers of a host or an enclave on a board
 abbrev pub floats_of : Board → Runner → Floats
 floats_of board who = floats_below board.monitor.table.layout.harts board.monitor.worlds
     board.floats board.kept who
 
--- the control words of the host of a hart: those that the hart has while the host runs there, and
--- those that it keeps while an enclave does
+-- the control words of the host of a hart: the hart's own while the host runs there, and the stored
+-- ones while an enclave runs
 abbrev pub host_control : Board → ℕ → ControlWords
 host_control board hart = if is_host (board.monitor.worlds hart) then board.control hart
     else board.hosts hart
@@ -58,11 +57,11 @@ abbrev pub IsPrivateByte : Board → ℕ → Enclave → ℕ → Type 0
 IsPrivateByte board id e byte = Live board.monitor.table id e
     × (is_private e.parts (byte / 4096) ≡ true)
 
--- a byte of a page of the monitor's
+-- a byte of a page of the monitor
 abbrev pub IsMonitorByte : Board → ℕ → Type 0
 IsMonitorByte board byte = has_page board.monitor.table.layout.monitor (byte / 4096) ≡ true
 
--- the access is a store that was allowed, by that enclave, and reaches the byte
+-- the access is an allowed store by that enclave, and reaches the byte
 pub record IsOwnStore (board : Board) (hart : ℕ) (a : Access) (said : Result (Unit {0}) Cause)
     (id byte : ℕ) : Type 0 where
   pub store : a.kind ≡ Store
@@ -70,10 +69,10 @@ pub record IsOwnStore (board : Board) (hart : ℕ) (a : Access) (said : Result (
   pub own : board.monitor.worlds hart ≡ InEnclave id
   pub reaches : Reaches a byte
 
--- what holds of each access: the entries of its hart say what the view of its world says. An access
--- that reaches a page which is private to an enclave, by any other world, is a fault, and so is any
--- that reaches a page of the monitor. A byte of such a private page stays, but for the enclave's
--- own stores. No register changes
+-- the effect of an access: the entries of its hart give the verdict of its world's view. An access
+-- to a private page of an enclave by any other world is a fault, and so is any access to a page of
+-- the monitor. Only the enclave's own stores change a byte of such a private page. No register
+-- changes
 pub record KeepsAccess (old : Board) (hart : ℕ) (a : Access) (said : Result (Unit {0}) Cause)
     (new : Board) : Type 0 where
   pub by_view : said ≡ verdict (current_view old.monitor.table (old.monitor.worlds hart)) a
@@ -86,8 +85,8 @@ pub record KeepsAccess (old : Board) (hart : ℕ) (a : Access) (said : Result (U
   pub running : (other : ℕ) → new.running other ≡ old.running other
   pub floats : (who : Runner) → floats_of new who ≡ floats_of old who
 
--- an event other than an access or a trap of the loop leaves the state of the monitor with its
--- register sets, memory, and the registers of every world that runs elsewhere or waits
+-- an event other than an access or a trap of the loop does not change the state of the monitor with
+-- its register sets, memory, or the registers of any other world
 pub record LeavesOthers (old : Board) (hart : ℕ) (new : Board) : Type 0 where
   pub monitor : new.monitor ≡ old.monitor
   pub memory : HasMemory new old.memory
@@ -100,14 +99,13 @@ abbrev pub HasRegisters : Board → ℕ → RegisterFile → Floats → Type 0
 HasRegisters board hart file floats = (board.running hart ≡ file)
     × (floats_of board (runner_on board.monitor hart) ≡ floats)
 
--- an enclave that was not there before, and is now
+-- an enclave that exists now but did not exist before
 abbrev pub IsNew : Board → Board → Runner → Type 0
 IsNew old new who = (id : ℕ) × (e : Enclave) × (who ≡ EnclaveOf id)
     × (enclave_at old.monitor.table.enclaves id ≡ None) × Live new.monitor.table id e
 
--- what holds of floating-point registers over each trap: a new enclave has zeros, one that ended
--- leaves zeros, and all others, hosts and enclaves, have what they had. So one that goes on has
--- what it left, on whichever hart
+-- the effect of a trap on floating-point registers: a new enclave has zeros, one that ended leaves
+-- zeros, and all other hosts and enclaves keep their values, on whichever hart they resume
 pub record KeepsFloats (old new : Board) : Type 0 where
   pub begins : (who : Runner) → IsNew old new who → floats_of new who ≡ no_floats
   pub ends : (who : Runner) → HasEnded old.monitor new.monitor who
@@ -115,10 +113,10 @@ pub record KeepsFloats (old new : Board) : Type 0 where
   pub stays : (who : Runner) → (IsNew old new who → ⊥)
       → (HasEnded old.monitor new.monitor who → ⊥) → floats_of new who ≡ floats_of old who
 
--- what holds of memory over each trap. A byte of a page that is private to an enclave before it
--- and after it stays. Where an enclave is no more, each byte of its private pages is zero, and
--- every other byte of memory stays. Where none is gone every byte of memory stays. An enclave that
--- is new has the digest of its private pages as they are in memory at that moment
+-- the effect of a trap on memory. A byte of a page that is private to an enclave before and after
+-- the trap is unchanged. If an enclave was destroyed, each byte of its private pages is zero, and
+-- every other byte is unchanged; otherwise all of memory is unchanged. A new enclave has the digest
+-- of its private pages as they are in memory at that moment
 pub record KeepsMemory (old new : Board) : Type 0 where
   pub private : (id byte : ℕ) (e f : Enclave) → IsPrivateByte old id e byte
       → IsPrivateByte new id f byte → new.memory byte ≡ old.memory byte
@@ -130,10 +128,10 @@ pub record KeepsMemory (old new : Board) : Type 0 where
   pub digest : (id : ℕ) (e : Enclave) → enclave_at old.monitor.table.enclaves id ≡ None
       → Live new.monitor.table id e → e.digest ≡ measured_in old.memory e.parts
 
--- what holds of integer registers over each trap. The world that trapped is left with the registers
--- that it had, if that was no exit: after a call the program counter is past it, and a0 and a1 may
--- be an answer. Each other set is as it was, but for that of one who comes in, comes back or ends.
--- The world that resumes has its set, and each other hart keeps its registers
+-- the effect of a trap on integer registers. The world that trapped keeps its registers unless it
+-- exited: after a call the program counter is past it, and a0 and a1 may contain the answer. All
+-- other sets are unchanged, except those of a world that enters, returns or ends. The world that
+-- resumes gets its set, and each other hart keeps its registers
 pub record KeepsSets (old : Board) (trap : Trap) (new : Board) : Type 0 where
   pub registers : KeepsRegisters (saved old trap) trap.hart new.monitor
   pub came :
@@ -145,9 +143,10 @@ pub record KeepsSets (old : Board) (trap : Trap) (new : Board) : Type 0 where
       ≡ new.monitor.registers (runner_on new.monitor trap.hart)
   pub others : (other : ℕ) → other ≢ trap.hart → new.running other ≡ old.running other
 
--- what holds of control words over each trap. Each host has those that it had: one that goes on,
--- one that waits, and one that comes back after an enclave. An enclave that its host enters has its
--- own, by two of the host's. And on each hart that stays in its world they stay
+-- the effect of a trap on control words. Each host keeps its own: one that runs on, one that is
+-- suspended, and one that resumes after an enclave. An enclave that its host enters gets its own
+-- words, derived from two of the host's. On each hart whose world does not change they are
+-- unchanged
 pub record KeepsControl (old : Board) (trap : Trap) (new : Board) : Type 0 where
   pub hosts : (hart : ℕ) → host_control new hart ≡ host_control old hart
   pub enters : (id : ℕ) → old.monitor.worlds trap.hart ≡ Host
@@ -157,7 +156,7 @@ pub record KeepsControl (old : Board) (trap : Trap) (new : Board) : Type 0 where
   pub stays : (hart : ℕ) → new.monitor.worlds hart ≡ old.monitor.worlds hart
       → new.control hart ≡ old.control hart
 
--- what holds of an event. After a trap that its hart serves without the loop, an enclave resumes
+-- the effect of an event. After a trap that its hart serves without the loop, an enclave resumes
 -- with all of its registers
 abbrev pub Keeps : BoardEvent → Board → Board → Type 0
 Keeps (access hart a value said) old new = KeepsAccess old hart a said new
@@ -175,49 +174,49 @@ Keeps (starts hart file words) old new = LeavesOthers old hart new
 Keeps (trapped trap frame read question answered) old new = KeepsMemory old new
     × KeepsFloats old new × KeepsSets old trap new × KeepsControl old trap new
 
--- so it is for each event of a run
+-- each event of a run has its effect
 abbrev pub EachKeeps : {layout : PlatformLayout} {opened : List ℕ} {events : List BoardEvent}
     {board : Board} → BoardRun layout opened events board → Type 0
 EachKeeps (booted board begins) = ⊤
 EachKeeps (happened {old = old} {new = new} run event happens) = EachKeeps run × Keeps event old new
 
--- what an event reads: the frame of a trap that the loop serves, and its pages
+-- the bytes that an event reads: the frame of a trap that the loop serves, and its pages
 abbrev pub read_in : BoardEvent → List ℕ
 read_in (trapped trap frame read question answered) = frame ++ read
 read_in _ = []
 
--- what it writes: the answer, and the question for pages
+-- the bytes that an event writes: the answer, and the question for pages
 abbrev pub written_in : BoardEvent → List ℕ
 written_in (trapped trap frame read question answered) = answered ++ question
 written_in _ = []
 
--- what was read in a run
+-- the bytes that were read in a run
 abbrev pub read_on : {layout : PlatformLayout} {opened : List ℕ} {events : List BoardEvent}
     {board : Board} → BoardRun layout opened events board → List ℕ
 read_on (booted board begins) = []
 read_on (happened run event happens) = read_on run ++ read_in event
 
--- what was written in it
+-- the bytes that were written in a run
 abbrev pub written_on : {layout : PlatformLayout} {opened : List ℕ} {events : List BoardEvent}
     {board : Board} → BoardRun layout opened events board → List ℕ
 written_on (booted board begins) = []
 written_on (happened run event happens) = written_on run ++ written_in event
 
--- the traps are a run of the loop, which read and wrote these bytes, and each world's list is kept
--- as its answers say
+-- the traps are a run of the loop, which read and wrote these bytes, and the stored list of each
+-- world is the one from the answers
 pub record IsServed (layout : PlatformLayout) (opened read written : List ℕ) (board : Board) :
     Type 0 where
   pub served : ServesTraps (opening_monitor layout) read written board.monitor
   pub keeps : (world : ℕ) → board.lists world ≡ list_last opened served world
 
--- an enclave that was not entered yet has the digest of its private pages as they are in memory.
--- So it has when it is entered
+-- an enclave that has not been entered has the digest of its private pages as they are in memory,
+-- so it has that digest when it is entered
 abbrev pub AreMeasured : Board → Type 0
 AreMeasured board = (id : ℕ) (e : Enclave) → Live board.monitor.table id e → e.state ≡ Fresh
     → e.digest ≡ measured_in board.memory e.parts
 
--- a hart on which an enclave runs has an enclave's control words, by two of those that it keeps for
--- its host and as far as it can hold them, but for status; and they confine the enclave
+-- a hart that runs an enclave has the control words of an enclave, derived from two of those stored
+-- for its host, as far as the hart can hold them, except status; and they confine the enclave
 abbrev pub HaveOwnControl : Board → Type 0
 HaveOwnControl board = (hart id : ℕ) → board.monitor.worlds hart ≡ InEnclave id
     → (board.control hart
@@ -227,27 +226,28 @@ HaveOwnControl board = (hart id : ℕ) → board.monitor.worlds hart ≡ InEncla
     × Confines (board.control hart)
 
 -- the control words of a host after an event: those that it wrote, or those with which its hart was
--- started, or else those that it had
+-- started, otherwise those from before
 abbrev pub control_by : BoardEvent → Board → ℕ → ControlWords → ControlWords
 control_by (wrote at words) old hart had =
     if hart == at && is_host (old.monitor.worlds at) then words else had
 control_by (starts at file words) old hart had = if hart == at then words else had
 control_by _ old hart had = had
 
--- those that the host of a hart wrote last, or with which its hart began since
+-- the control words that the host of a hart wrote last, or with which its hart was started since
 abbrev pub wrote_last : {layout : PlatformLayout} {opened : List ℕ} {events : List BoardEvent}
     {board : Board} → BoardRun layout opened events board → ℕ → ControlWords
 wrote_last (booted board begins) hart = board.control hart
 wrote_last (happened {old = old} run event happens) hart =
     control_by event old hart (wrote_last run hart)
 
--- after any events: the traps among them are a run of the loop, by what was read and written. The
--- table is sound, and the platform is the one that was booted. Each hart is in the host's world or
--- in that of an enclave that is Running, and each of these runs on just one; none is to be woken.
--- The entries of each hart that is not parked mean the view of its world, and no fewer entries do.
--- Each hart has the floating-point registers of its world. Each host has the control words that it
--- wrote last, and its hart can hold them; an enclave that runs has those of an enclave. What was
--- measured of an enclave is what it will first run. And what each event kept
+-- after any events: the traps among them are a run of the loop that read and wrote these bytes. The
+-- table is sound, and the platform is the one that was booted. Each hart is in the world of the
+-- host or of a Running enclave, each of which runs on exactly one hart; no hart needs to be woken.
+-- The entries of each hart that is not parked mean the view of its world, with the fewest entries
+-- possible. Each hart has the floating-point registers of its world. Each host has the control
+-- words that it wrote last, and its hart can hold them; a running enclave has those of an enclave.
+-- The digest of an enclave is that of the bytes with which it first runs. And each event has its
+-- effect
 pub record BoardHeadline (layout : PlatformLayout) (opened : List ℕ) (events : List BoardEvent)
     (board : Board) (run : BoardRun layout opened events board) : Type 0 where
   pub served : IsServed layout opened (read_on run) (written_on run) board

@@ -1,20 +1,20 @@
 -- The control registers of a hart, whose fields are WARL: they hold only some of the bits that are
--- written. Which bits must be able to be zero so that the hart confines an enclave.
+-- written. Bits that must be able to be zero so that the hart confines an enclave.
 use Rattle.std.specs.Prelude.{◌≡◌, ℕ, bit_and, bit_or}
 use Rattle.trap_server.specs.Tables.{hosts_interrupts, monitors_interrupts}
 use Rattle.trap_server.specs.declared.words.ControlWords.{ControlWords}
 
--- the control registers of a hart: for each register the bits that can be written, and the fixed
--- value of the others. A register that the hart lacks keeps no bit and is zero
+-- the control registers of a hart: for each register the writable bits, and the fixed value of the
+-- others. A register that the hart lacks has no writable bits and is zero
 pub record ControlRegisters : Type 0 where
   pub keeps : ControlWords
   pub fixed : ControlWords
 
--- the value of a register after a word was written to it
+-- the value of a register after a write of a word
 abbrev pub held_word : ℕ → ℕ → ℕ → ℕ
 held_word keeps fixed word = bit_or (bit_and word keeps) fixed
 
--- the values of a hart's registers after these words were written to them
+-- the values of a hart's registers after a write of these words
 abbrev pub held : ControlRegisters → ControlWords → ControlWords
 held hart words = record {
   status = held_word hart.keeps.status hart.fixed.status words.status;
@@ -28,17 +28,17 @@ held hart words = record {
   mode = held_word hart.keeps.mode hart.fixed.mode words.mode;
 }
 
--- words that the registers of a hart can hold: a write of them reads back unchanged
+-- words that the registers of a hart can hold: they read back unchanged
 abbrev pub CanHold : ControlRegisters → ControlWords → Type 0
 CanHold hart words = held hart words ≡ words
 
--- HU of hstatus, bit 9: user mode has the loads and stores that go through a guest's tables
+-- HU of hstatus, bit 9: allows user mode the loads and stores that use a guest's tables
 abbrev pub guest_access : ℕ
 guest_access = 0x200
 
--- these words confine an enclave: it runs in user mode and is no guest, without a table of pages.
--- No exception goes to supervisor mode, nor does an enabled interrupt. User mode has no loads and
--- stores of a guest
+-- these words confine an enclave: it runs in user mode, not as a guest, and without a page table.
+-- No exception and no enabled interrupt goes to supervisor mode. User mode has no hypervisor loads
+-- and stores
 pub record Confines (words : ControlWords) : Type 0 where
   pub mode : words.mode ≡ 0
   pub satp : words.satp ≡ 0

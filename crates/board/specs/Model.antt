@@ -20,8 +20,8 @@ use Rattle.trap_server.specs.declared.trap.TrapEvent.{TrapEvent}
 use Rattle.trap_server.specs.declared.trap.TrapEvent.TheVariants as trap_events
 use Rattle.board.specs.Board.{Board, BoardEvent, BoardRun, access, computed, no_floats, trapped}
 
--- a board is as a state of the model: the same table, the same world on each hart, the same byte at
--- each address, and the same registers of each world that waits. Those of a world that runs are
+-- a board matches a state of the model: the same table, the same world on each hart, the same byte
+-- at each address, and the same registers of each suspended world. Those of a running world are
 -- saved at its next trap
 pub record IsAs (board : Board) (s : MachineState) : Type 0 where
   pub table : board.monitor.table ≡ s.table
@@ -30,8 +30,8 @@ pub record IsAs (board : Board) (s : MachineState) : Type 0 where
   pub registers : (who : Runner) → ((hart : ℕ) → hart < s.table.layout.harts
       → who ≢ runner_of hart (s.worlds hart)) → board.monitor.registers who ≡ s.registers who
 
--- an answer says what the model replies, in words of 64 bits: of a call the status and the value,
--- and the world that goes on and how many entries it has
+-- an answer contains the model's reply, in words of 64 bits: for a call the status and the value,
+-- and in each case the world that resumes and its number of entries
 abbrev pub SaysReply : List ℕ → Reply → Type 0
 SaysReply answered (replies.Call status value world used) =
     (word_at answered 3 ≡ status_word status % 2 ^ 64) × (word_at answered 4 ≡ value % 2 ^ 64)
@@ -40,8 +40,8 @@ SaysReply answered (replies.Irq world used) = (word_at answered 2 ≡ world % 2 
     × (word_at answered 5 ≡ used % 2 ^ 64)
 SaysReply answered _ = ⊥
 
--- one trap on a hart, of this kind, after a computation that left registers of which that holds;
--- its answer says the reply
+-- one trap of this kind on a hart, after a computation that left registers with this property; its
+-- answer contains the reply
 pub record IsOneTrap (kind : TrapEvent) (hart : ℕ) (Came : RegisterFile → Type 0) (reply : Reply)
     (seen : List BoardEvent) : Type 0 where
   pub trap : Trap
@@ -56,10 +56,10 @@ pub record IsOneTrap (kind : TrapEvent) (hart : ℕ) (Came : RegisterFile → Ty
   pub one : seen ≡ computed hart trap.registers no_floats
       ∷ (trapped trap frame read question answered ∷ [])
 
--- what a board sees of an event of the model: an access, with what was said of it, or none where a
--- store wanted memory; no event where a register is set; a trap for a call, after the registers
--- with which the model's goes on past it were computed; and a trap for an interrupt, after those of
--- the world that runs were
+-- the events of a board for an event of the model: an access with its verdict, or nothing if a
+-- store failed to allocate; nothing for a write of a register; for a call, a computation of the
+-- registers with which the model continues past it, and a trap; and for an interrupt, a computation
+-- of the running world's registers, and a trap
 abbrev pub IsSeen : Event → MachineState → ℕ → Reply → List BoardEvent → Type 0
 IsSeen (events.Access a value) s hart (replies.Fault cause) seen =
     seen ≡ access hart a value (Err cause) ∷ []
@@ -71,7 +71,7 @@ IsSeen (events.Ecall words) s hart reply seen = IsOneTrap trap_events.Call hart
 IsSeen events.Irq s hart reply seen = IsOneTrap trap_events.Stop hart
     (λ file. file ≡ running_registers (core_of s) hart) reply seen
 
--- so it is for each event of a run
+-- the events of a board for a run of the model
 abbrev pub AreSeen : {old : MachineState} {events : List (ℕ × Event)} {replies : List Reply}
     {new : MachineState} → Run old events replies new → List BoardEvent → Type 0
 AreSeen still seen = seen ≡ []
@@ -79,7 +79,7 @@ AreSeen (step {mid = mid} run hart event reply known may does) seen =
     (before now : List BoardEvent) × AreSeen run before × IsSeen event mid hart reply now
     × (seen ≡ before ++ now)
 
--- what is seen of a run of the model is a run of a board, and leaves it as the model's state is
+-- the events of a run of the model are a run of a board that ends in a matching state
 pub record RunsOnBoard (layout : PlatformLayout) (opened : List ℕ) {events : List (ℕ × Event)}
     {replies : List Reply} {s : MachineState}
     (run : Run (opening_state layout) events replies s) : Type 0 where
@@ -89,7 +89,8 @@ pub record RunsOnBoard (layout : PlatformLayout) (opened : List ℕ) {events : L
   pub runs : BoardRun layout opened seen board
   pub is_as : IsAs board s
 
--- so it is for each run of the model, on every platform that keeps its rules and can be booted
+-- each run of the model is a run of a board, on every platform that obeys its rules and can be
+-- booted
 abbrev pub ModelRunsOnBoard : Type 0
 ModelRunsOnBoard =
     (layout : PlatformLayout) (opened : List ℕ) (events : List (ℕ × Event)) (replies : List Reply)

@@ -1,4 +1,4 @@
--- What stays between two traps: the pages of an enclave that was not entered.
+-- Invariants between two traps: the pages of an enclave that has not been entered.
 use Rattle.std.specs.Prelude.{◌≡◌, ℕ, ◌/◌, List, None, true, ⊤}
 use Rattle.measurement.specs.Requests.{is_private}
 use Rattle.platforms.specs.Platform.{IsLayout, PlatformLayout}
@@ -11,24 +11,24 @@ use Rattle.board.specs.Board.{Board, BoardEvent, BoardRun, DoesTrap, HappensOn, 
 use Rattle.board.specs.Held.{CanConfine}
 use Rattle.board.specs.Headline.{IsPrivateByte}
 
--- any event but a trap that the loop serves
+-- any event except a trap that the loop serves
 abbrev pub IsNoTrap : BoardEvent → Type 0
 IsNoTrap (trapped trap frame read question answered) = ⊥
 IsNoTrap _ = ⊤
 
--- the worlds of a board run on, with no trap of the loop: such events, one after another, on any
--- harts
+-- any number of events without a trap of the loop, on any harts
 pub data RunsOn (old : Board) : Board → Type 0 where
   begins : RunsOn old old
   goes_on : {mid new : Board} → RunsOn old mid → (event : BoardEvent) → IsNoTrap event
       → HappensOn event mid new → RunsOn old new
 
--- each byte of a private page of an enclave that was not entered yet is as it was
+-- no byte of a private page of an enclave that has not been entered changes
 abbrev pub KeepsFreshPages : Board → Board → Type 0
 KeepsFreshPages old new = (id byte : ℕ) (e : Enclave) → IsPrivateByte old id e byte
     → e.state ≡ Fresh → new.memory byte ≡ old.memory byte
 
--- after any events, the pages of each enclave that was not entered yet stay until the next trap
+-- after any events, the pages of each enclave that has not been entered do not change until the
+-- next trap
 abbrev pub FreshPagesStay : Type 0
 FreshPagesStay =
     (layout : PlatformLayout) (opened : List ℕ) (events : List BoardEvent) (old new : Board)
@@ -36,7 +36,8 @@ FreshPagesStay =
     → ((hart : ℕ) → CanConfine (old.csrs hart))
     → RunsOn old new → KeepsFreshPages old new
 
--- where a trap makes an enclave, after any events, its pages stay over that trap and until the next
+-- if a trap creates an enclave, after any events, its pages do not change during that trap and
+-- until the next one
 abbrev pub NewPagesStay : Type 0
 NewPagesStay =
     (layout : PlatformLayout) (opened : List ℕ) (events : List BoardEvent) (old mid new : Board)

@@ -13,9 +13,9 @@ use Rattle.board.specs.Headline.{BoardHeadline}
 use Rattle.board.specs.Held.{CanConfine}
 use Rattle.board.specs.Stays.{IsNoTrap}
 
--- an event that needs no lock, on another hart: an access, a computation, a write of control words,
+-- an event on another hart that needs no lock: an access, a computation, a write of control words,
 -- or a trap that is served without the loop. Other traps, and starts and stops of harts, wait for
--- the lock: a hart that waits makes no event
+-- the lock: a waiting hart makes no event
 abbrev pub IsElsewhere : ℕ → BoardEvent → Type 0
 IsElsewhere hart (access other a value said) = other ≢ hart
 IsElsewhere hart (computed other file floats) = other ≢ hart
@@ -40,37 +40,57 @@ pub data Zeroes (hart first count : ℕ) (old : Board) : List BoardEvent → Boa
   zeroes : {events : List BoardEvent} {mid new : Board} → Zeroes hart first count old events mid
       → ZeroesSome first count mid new → Zeroes hart first count old events new
 
--- the frame of a page has the bytes of memory, whichever page it is
+-- the frame of a page contains the bytes of memory, whichever page it is
 abbrev pub HasPage : (ℕ → ℕ) → List ℕ → Type 0
 HasPage memory frame = (page : ℕ) (bytes : List ℕ) → IsPageFrame frame page bytes
     → bytes ≡ bytes_at memory (page * 4096) 4096
 
--- other harts run while the hart with the lock reads pages, each as it is in memory at that moment
-pub data OthersRun (hart : ℕ) (old : Board) : List BoardEvent → List ℕ → Board → Type 0 where
-  rests : OthersRun hart old [] [] old
-  runs : {events : List BoardEvent} {read : List ℕ} {mid new : Board}
-      → OthersRun hart old events read mid
-      → (event : BoardEvent) → IsElsewhere hart event → HappensOn event mid new
-      → OthersRun hart old (events ++ event ∷ []) read new
-  reads : {events : List BoardEvent} {read : List ℕ} {mid : Board}
-      → OthersRun hart old events read mid
-      → (frame : List ℕ) → length frame ≡ 4112 → HasPage mid.memory frame
-      → OthersRun hart old events (read ++ frame) mid
+-- the hart of an event that needs no lock has the list that it has after the trap. A hart whose
+-- list changes is stopped first, and makes no event before it has loaded the new one
+abbrev pub HasItsList : Board → Board → BoardEvent → Type 0
+HasItsList done now (access other a value said) = now.loaded other ≡ done.loaded other
+HasItsList done now (computed other file floats) = now.loaded other ≡ done.loaded other
+HasItsList done now (wrote other words) = now.loaded other ≡ done.loaded other
+HasItsList done now (aside other on) = now.loaded other ≡ done.loaded other
+HasItsList done now _ = ⊥
 
--- the first part of what a trap does: pages are zero, lists of entries are kept, and harts have
--- loaded theirs. Only during this step are the harts stopped whose entries change
+-- one hart loads the list that it has after the trap
+abbrev pub loaded_on : ℕ → Board → Board → Board
+loaded_on other done board = record board {
+  loaded = λ h. if h == other then done.loaded h else board.loaded h;
+}
+
+-- once the lists of a trap are stored, harts load theirs, one by one and in any order, other harts
+-- run, and the hart with the lock reads pages, each as it is in memory at that moment
+pub data OthersRun (hart : ℕ) (done old : Board) : List BoardEvent → List ℕ → Board → Type 0 where
+  rests : OthersRun hart done old [] [] old
+  loads : {events : List BoardEvent} {read : List ℕ} {mid : Board}
+      → OthersRun hart done old events read mid
+      → (other : ℕ) → OthersRun hart done old events read (loaded_on other done mid)
+  runs : {events : List BoardEvent} {read : List ℕ} {mid new : Board}
+      → OthersRun hart done old events read mid
+      → (event : BoardEvent) → IsElsewhere hart event → HasItsList done mid event
+      → HappensOn event mid new → OthersRun hart done old (events ++ event ∷ []) read new
+  reads : {events : List BoardEvent} {read : List ℕ} {mid : Board}
+      → OthersRun hart done old events read mid
+      → (frame : List ℕ) → length frame ≡ 4112 → HasPage mid.memory frame
+      → OthersRun hart done old events (read ++ frame) mid
+
+-- the first part of the effects of a trap: pages are zeroed, and lists of entries are stored. The
+-- harts are stopped that have to load another list
 abbrev pub changed_lists : Board → Board → Board
 changed_lists old done = record old {
   memory = done.memory;
   lists = done.lists;
-  loaded = done.loaded;
 }
 
--- the last part of what a trap on a hart does: the monitor's state with its register sets, and the
--- registers of that hart and of worlds that wait, change
+-- the last part of the effects of a trap on a hart, when each hart has loaded its list: the
+-- monitor's state with its register sets, and the registers of that hart and of suspended worlds,
+-- change
 abbrev pub answered_on : ℕ → Board → Board → Board
 answered_on hart done board = record board {
   monitor = done.monitor;
+  loaded = done.loaded;
   running = λ h. if h == hart then done.running h else board.running h;
   floats = λ h. if h == hart then done.floats h else board.floats h;
   kept = done.kept;
@@ -78,20 +98,21 @@ answered_on hart done board = record board {
   hosts = λ h. if h == hart then done.hosts h else board.hosts h;
 }
 
--- a trap that takes time. The hart that traps has the lock and makes no event until it is answered
+-- a trap that takes time. The hart that traps holds the lock and makes no event until the answer
 pub record TakesTime (old : Board) (before : List BoardEvent) (trap : Trap)
     (frame read question answered : List ℕ) (others : List BoardEvent) (new : Board) :
     Type 0 where
   -- the pages that the answer names are zeroed while other harts run with the old lists
   pub ready : Board
   pub zeroing : Zeroes trap.hart (word_at answered 6) (word_at answered 7) old before ready
-  -- the lists change in one step, and the pages are zero then. This step and the last one together
-  -- do the duties at a trap
+  -- the lists are stored, and the pages are zero then. All steps from this one on together fulfil
+  -- the duties at a trap
   pub done : Board
   pub duties : TrapDuties ready trap frame read question answered done
-  -- the pages that were asked for are read while other harts run with the new lists
+  -- harts load their lists, and the pages that were asked for are read, while other harts run
   pub last : Board
-  pub between : OthersRun trap.hart (changed_lists ready done) others read last
+  pub between : OthersRun trap.hart done (changed_lists ready done) others read last
+  pub each : (hart : ℕ) → last.loaded hart ≡ done.loaded hart
   -- the trap is answered
   pub answers : new ≡ answered_on trap.hart done last
 

@@ -4,3 +4,4 @@ mod Parts
 mod Files
 mod Refusals
 mod PageNumbers
+mod PagesMet

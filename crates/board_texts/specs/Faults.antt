@@ -1,4 +1,4 @@
--- Why there is no text of a board, in words.
+-- The messages for boards that cannot be written as text.
 use Rattle.std.specs.Prelude.{ℕ, List, ◌++◌, codes, decimal}
 use Rattle.device_tree.specs.declared.fault.TreeReason.{TreeReason}
 use Rattle.device_tree.specs.declared.fault.TreeReason.TheVariants as trees
@@ -12,7 +12,7 @@ use Rattle.board_texts.specs.declared.fault.BoardTextFault.TheVariants.{Tree, Ra
 use Rattle.board_texts.specs.declared.fault.BoardTextFault.TheVariants.{TooManyRanges, NoMonitor}
 use Rattle.board_texts.specs.declared.fault.BoardTextFault.TheVariants.{NotReadBack, Memory}
 
--- why bytes are no tree
+-- the reason why bytes are not a tree
 abbrev pub tree_text : TreeReason → List ℕ
 tree_text trees.ShortHeader = codes "the header is cut"
 tree_text trees.BadMagic = codes "it does not begin with d0 0d fe ed"
@@ -36,7 +36,7 @@ tree_text trees.NoRoot = codes "there is no root"
 tree_text trees.PieceBehindRoot = codes "something follows the root"
 tree_text trees.Memory = codes "memory was refused"
 
--- why a node's numbers make no ranges
+-- the reason why the numbers of a node do not give ranges
 abbrev pub ranges_text : BoardReason → List ℕ
 ranges_text BadCells = codes "cells are no number from 0 to 4"
 ranges_text (BadRows rows.BadLength) = codes "reg or ranges has no whole rows"
@@ -44,7 +44,7 @@ ranges_text (BadRows rows.LargeNumber) = codes "an address or a size is above 64
 ranges_text (BadRows rows.TooMany) = codes "registers in too many ranges"
 ranges_text (BadRows rows.Memory) = codes "memory was refused"
 
--- why ranges are no platform
+-- the rule on platforms that is broken
 abbrev pub rule_text : PlatformFault → List ℕ
 rule_text rules.BadRange = codes "the monitor is no whole pages"
 rule_text rules.Overlap = codes "two ranges have a page in common"
@@ -53,7 +53,7 @@ rule_text rules.BadNumber = codes "not 1 to 32 ranges of memory, at most 32 devi
 rule_text rules.BadHarts = codes "the tree has no hart"
 rule_text rules.BadEntries = codes "neither 16 nor 64 entries"
 
--- why there is no text, and where the tree is at fault: the offset of a byte, or that of the node
+-- the message for a fault, with the offset of the byte or node in the tree if it has one
 abbrev pub fault_text : BoardTextFault → List ℕ
 fault_text (Tree fault) = tree_text fault.reason ++ (codes ", at byte " ++ decimal fault.offset)
 fault_text (Ranges fault) = ranges_text fault.reason

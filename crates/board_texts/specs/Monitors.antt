@@ -1,4 +1,4 @@
--- Where the monitor is, as a tree says, and how many harts there are.
+-- The location of the monitor according to a tree, and the number of harts.
 use Rattle.std.specs.Prelude.{ℕ, ◌+◌, ◌*◌, Bool, true, false, cond, leb, ltb, ◌&&◌}
 use Rattle.std.specs.Prelude.{List, [], ◌∷◌, Option, Some, None, option_map}
 use Rattle.std.specs.List.{list_any}
@@ -9,7 +9,7 @@ use Rattle.device_tree.specs.declared.kinds.Kind.TheVariants.{Memory, Reserved, 
 use Rattle.device_tree.specs.Meaning.{Range}
 use Rattle.board_texts.specs.Pages.{outer}
 
--- a byte is one of the extent's
+-- the extent contains the byte
 abbrev pub has_byte : Extent → ℕ → Bool
 has_byte extent at = leb extent.base at && ltb at (extent.base + extent.size)
 
@@ -18,7 +18,7 @@ abbrev pub is_memory : Kind → Bool
 is_memory Memory = true
 is_memory _ = false
 
--- a range is memory that is not to be mapped
+-- a range is memory that must not be mapped
 abbrev pub is_reserved : Kind → Bool
 is_reserved Reserved = true
 is_reserved _ = false
@@ -28,24 +28,24 @@ abbrev pub is_hart : Kind → Bool
 is_hart Hart = true
 is_hart _ = false
 
--- a range is memory that begins in the extent
+-- a range is memory and its start is inside the extent
 abbrev pub begins_in : Extent → Range → Bool
 begins_in extent range = is_memory range.kind && has_byte extent range.extent.base
 
--- the pages of the first reserved range in which a range of memory begins
+-- the pages of the first reserved range that contains the start of a range of memory
 abbrev pub monitor_in : List Range → List Range → Option PageRange
 monitor_in all [] = None
 monitor_in all (range ∷ ranges) = cond
     (is_reserved range.kind && list_any (begins_in range.extent) all) (Some (outer range.extent))
     (monitor_in all ranges)
 
--- the monitor's base and size: as they are given, else as the tree says
+-- the monitor's base and size: the given ones, otherwise those from the tree
 abbrev pub monitor_of : Option (ℕ × ℕ) → List Range → Option (ℕ × ℕ)
 monitor_of (Some given) ranges = Some given
 monitor_of None ranges = option_map
     (λ (pages : PageRange). (4096 * pages.first, 4096 * pages.count)) (monitor_in ranges ranges)
 
--- how many harts the tree has in use
+-- the number of harts that the tree has in use
 abbrev pub harts_of : List Range → ℕ
 harts_of [] = 0
 harts_of (range ∷ ranges) = cond (is_hart range.kind) 1 0 + harts_of ranges

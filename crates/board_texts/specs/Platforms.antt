@@ -30,13 +30,13 @@ use Rattle.board_texts.specs.Comments.{comments_on, gives, lefts_text, reservati
 use Rattle.board_texts.specs.Monitors.{harts_of, monitor_of}
 use Rattle.board_texts.specs.Views.{board_view}
 
--- the ranges of memory that runs are, in bytes
+-- the ranges of memory among the runs, in bytes
 abbrev pub ram_of : List Run → List (ℕ × ℕ)
 ram_of [] = []
 ram_of (run ∷ runs) = cond (gives Memory run.perm)
     ((4096 * run.first, 4096 * run.count) ∷ ram_of runs) (ram_of runs)
 
--- the devices that runs are, in bytes
+-- the devices among the runs, in bytes
 abbrev pub devices_of : List Run → List (ℕ × ℕ × Perm)
 devices_of [] = []
 devices_of (run ∷ runs) = cond (gives Device run.perm)
@@ -46,7 +46,7 @@ devices_of (run ∷ runs) = cond (gives Device run.perm)
 abbrev pub pages_of_bytes : (ℕ × ℕ) → PageRange
 pages_of_bytes range = record { first = range.0 / 4096; count = range.1 / 4096 }
 
--- as many harts as the tree has in use, at most four
+-- the number of harts in the platform, at most four
 abbrev pub harts_used : List Range → ℕ
 harts_used ranges = min (harts_of ranges) 4
 
@@ -62,7 +62,7 @@ table_text run = cond (gives Memory run.perm)
     (codes "[[device]]\n" ++ (keys_text (4096 * run.first) (4096 * run.count)
     ++ codes "perm = \"rw\"\n"))
 
--- a run: the ranges that it is from, and its table
+-- a run of a platform: the comments on its ranges, and its table
 abbrev pub part_text : List Range → Run → List ℕ
 part_text ranges run = codes "\n" ++ (comments_on run ranges ++ table_text run)
 
@@ -71,28 +71,28 @@ abbrev pub tables_text : List Range → List Run → List ℕ
 tables_text ranges [] = []
 tables_text ranges (run ∷ runs) = part_text ranges run ++ tables_text ranges runs
 
--- how many harts the platform has, and the tree
+-- the number of harts in the platform, with that in the tree
 abbrev pub harts_text : ℕ → ℕ → List ℕ
 harts_text used harts = codes "harts = " ++ (decimal used ++ (codes " # the tree has "
     ++ (decimal harts ++ codes " in use\n")))
 
--- where the monitor is from
+-- the comment on the origin of the monitor's range
 abbrev pub given_text : Option (ℕ × ℕ) → List ℕ
 given_text (Some given) = codes "# as it was given\n"
 given_text None = codes "# the no-map node in which memory begins\n"
 
--- what the text of a platform begins with
+-- the first lines of a platform
 unfoldable pub platform_head : List ℕ
 platform_head = codes "# The platform of a device tree. It does not name nodes that are not in use,\n"
     ++ (codes "# /reserved-memory without no-map or reg, and what is reached through PCI.\n"
     ++ (codes "# A device that reads or writes memory by itself reaches all of it: take out the\n"
     ++ codes "# table of each that the host is not to have.\n"))
 
--- how many entries a hart has, and whose table comes then
+-- the number of PMP entries of a hart, and the header of the monitor's table
 unfoldable pub entries_text : List ℕ
 entries_text = codes "entries = 16 # a tree does not say how many: 16 or 64\n\n[monitor]\n"
 
--- how the text of a board's platform begins
+-- the first part of the text of a board's platform
 abbrev pub head_text : Option (ℕ × ℕ) → (ℕ × ℕ) → List Range → List ℕ
 head_text given monitor ranges = platform_head
     ++ (harts_text (harts_used ranges) (harts_of ranges)
@@ -105,15 +105,15 @@ board_platform_text given monitor ranges reservations runs = head_text given mon
     ++ (tables_text ranges runs ++ (codes "\n" ++ (lefts_text runs ranges
     ++ reservations_text reservations)))
 
--- the platform of a board: the runs of what it gives on each page, but for the monitor, on whose
--- pages nothing is denied
+-- the runs of a board's platform: those of the board's view, in which the monitor's pages are not
+-- denied
 pub record IsBoardLayout (given : Option (ℕ × ℕ)) (ranges : List Range) (runs : List Run)
     (monitor : ℕ × ℕ) : Type 0 where
   pub monitor_is : monitor_of given ranges ≡ Some monitor
   pub are_runs : AreRuns runs
   pub view_is : SameView (view_of_runs runs) (board_view (pages_of_bytes monitor) ranges)
 
--- the platform of these ranges and that many harts
+-- the platform of these ranges with this number of harts
 abbrev pub built : (ℕ × ℕ) → List (ℕ × ℕ) → List (ℕ × ℕ × Perm) → ℕ → PlatformLayout
 built monitor ram devices harts = record {
   monitor = monitor;
@@ -127,7 +127,7 @@ built monitor ram devices harts = record {
 abbrev pub layout_of : List Range → List Run → (ℕ × ℕ) → PlatformLayout
 layout_of ranges runs monitor = built monitor (ram_of runs) (devices_of runs) (harts_used ranges)
 
--- the first rule on ranges that is broken has this fault, or there is no hart
+-- the first broken rule on ranges has this fault, or there is no hart
 abbrev pub IsRuleBroken : (ℕ × ℕ) → List (ℕ × ℕ) → List (ℕ × ℕ × Perm) → ℕ → PlatformFault
     → Type 0
 IsRuleBroken monitor ram devices harts fault = FailsFirst (platform_rules monitor ram devices) fault
@@ -150,14 +150,14 @@ pub record IsBoardPlatform (given : Option (ℕ × ℕ)) (ranges : List Range)
   pub text_is : text ≡ board_platform_text given monitor ranges reservations runs
   pub file : IsPlatformFile text (layout_of ranges runs monitor)
 
--- the bytes are those of a device tree, and the text is the platform of its board
+-- the bytes begin with a device tree, and the text is the platform of its board
 pub record IsPlatformOfTree (given : Option (ℕ × ℕ)) (bytes text : List ℕ) : Type 0 where
   pub ranges : List Range
   pub reservations : List Reservation
   pub board : IsBoard bytes ranges reservations
   pub platform : IsBoardPlatform given ranges reservations text
 
--- when the runs of a board are no platform: a rule is broken
+-- the condition for the runs of a board not to form a platform: a rule is broken
 abbrev pub IsMapRefusal : (ℕ × ℕ) → List Range → List Run → BoardTextFault → Type 0
 IsMapRefusal monitor ranges runs (faults.Tree fault) = ⊥
 IsMapRefusal monitor ranges runs (faults.Ranges fault) = ⊥
@@ -168,8 +168,8 @@ IsMapRefusal monitor ranges runs (faults.Rule fault) = IsRuleBroken monitor (ram
 IsMapRefusal monitor ranges runs faults.NotReadBack = ⊤
 IsMapRefusal monitor ranges runs faults.Memory = ⊤
 
--- when the ranges of a board are no platform: it is not known where the monitor is, or a rule is
--- broken
+-- the conditions for the ranges of a board not to form a platform: the monitor's location is
+-- unknown, or a rule is broken
 abbrev pub IsBoardRefusal : Option (ℕ × ℕ) → List Range → BoardTextFault → Type 0
 IsBoardRefusal given ranges (faults.Tree fault) = ⊥
 IsBoardRefusal given ranges (faults.Ranges fault) = ⊥
@@ -179,14 +179,15 @@ IsBoardRefusal given ranges (faults.Rule fault) = BreaksRule given ranges fault
 IsBoardRefusal given ranges faults.NotReadBack = ⊤
 IsBoardRefusal given ranges faults.Memory = ⊤
 
--- when a tree that is in a block is no platform: so are its ranges; or it says none, for the fault
--- that is named of the node at its offset
+-- the conditions for a tree in a block not to give a platform: its ranges do not form one; or it
+-- gives no ranges, because of this fault of the node at its offset
 abbrev pub IsTreeRefusal : Option (ℕ × ℕ) → Block → Tree → BoardTextFault → Type 0
 IsTreeRefusal given block tree fault = ((one : BoardFault) × (fault ≡ faults.Ranges one)
     × IsBoardFaultIn block tree one)
     ⊎ ((ranges : List Range) × TreeSays tree ranges × IsBoardRefusal given ranges fault)
 
--- when there is no platform: the bytes begin with no tree, or the tree is none
+-- the conditions for there to be no platform: the bytes do not begin with a tree, or the tree does
+-- not give one
 abbrev pub IsNoPlatform : Option (ℕ × ℕ) → List ℕ → BoardTextFault → Type 0
 IsNoPlatform given bytes fault = ((reason : TreeFault) × (fault ≡ faults.Tree reason)
     × IsNoTree bytes reason)

@@ -1,9 +1,9 @@
-//! What is said of a range: which node it is from, where it is, and what became of it.
+//! Comments on ranges: the node, the location, and the reason if a range is left out.
 
-ghost use Rattle.std.specs.Prelude.{◌≡◌, ◌≤◌, ◌++◌, OnOk, length, map, take};
+ghost use Rattle.std.specs.Prelude.{◌≡◌, ◌≤◌, ◌++◌, ◌&&◌, OnOk, length, map, take};
 ghost use Rattle.std.specs.List.{list_any};
 ghost use Rattle.device_tree.specs.Meaning.{said_of};
-ghost use Rattle.board_texts.specs.Pages.{pages_of, range_of};
+ghost use Rattle.board_texts.specs.Pages.{all_pages, pages_of, range_of};
 ghost use Rattle.board_texts.specs.Comments.{comment_text, comments_on, extent_text, gives, is_from, is_left, is_paged, kind_text, left_out_text, left_reason, left_text, lefts_text, meets, name_text, named_text, pages_text, plain, range_text, reservation_text, reservations_text, rest_text};
 
 use crate::pages::pages_of;
@@ -13,10 +13,10 @@ use pmp_encoding::{PAGE_SIZE, PageRange, Perm};
 use std::alloc::AllocError;
 use text_lines::{push, push_address};
 
-/// How many bytes of a name are shown.
+/// Maximum number of bytes of a name to print.
 const SHOWN: usize = 32;
 
-/// A byte of a name as it is shown.
+/// Replaces a byte that is not visible ASCII by `?`.
 fn plain(byte: u8) -> u8
     ensures { result ≡ plain byte }
 {
@@ -26,7 +26,7 @@ fn plain(byte: u8) -> u8
     b'?'
 }
 
-/// Appends bytes of a name as they are shown.
+/// Appends bytes of a name in printable form.
 fn push_plain(text: &mut Vec<u8>, name: &[u8]) -> Result<(), AllocError>
     ensures { OnOk result (text.new.items ≡ text.old.items ++ map plain name.now) }
 {
@@ -36,7 +36,7 @@ fn push_plain(text: &mut Vec<u8>, name: &[u8]) -> Result<(), AllocError>
     Ok(())
 }
 
-/// The first bytes of a name.
+/// Returns the first 32 bytes of a name.
 fn beginning(name: &[u8]) -> &[u8]
     requires { 32 ≤ length name.now }
     ensures { result.now ≡ take 32 name.now }
@@ -44,7 +44,7 @@ fn beginning(name: &[u8]) -> &[u8]
     &name[..SHOWN]
 }
 
-/// Appends a name: its beginning, where it is long.
+/// Appends a name, truncated if it is long.
 fn push_name(text: &mut Vec<u8>, name: &[u8]) -> Result<(), AllocError>
     ensures { OnOk result (text.new.items ≡ text.old.items ++ name_text name.now) }
 {
@@ -55,7 +55,7 @@ fn push_name(text: &mut Vec<u8>, name: &[u8]) -> Result<(), AllocError>
     push_plain(text, name)
 }
 
-/// What a kind is called.
+/// Returns the word for a kind of range.
 fn kind_text(kind: Kind) -> &'static str
     ensures { result.now ≡ kind_text kind }
 {
@@ -69,14 +69,14 @@ fn kind_text(kind: Kind) -> &'static str
     }
 }
 
-/// Whether an extent begins and ends where a page does.
+/// Returns whether an extent begins and ends at page boundaries.
 fn is_paged(extent: Extent) -> bool
     ensures { result ≡ is_paged extent }
 {
     extent.base % PAGE_SIZE == 0 && extent.size % PAGE_SIZE == 0
 }
 
-/// What is said where a range is no whole pages.
+/// Returns the note on a range that does not consist of whole pages.
 fn rest_text(kind: Kind) -> &'static str
     ensures { result.now ≡ rest_text kind }
 {
@@ -90,7 +90,7 @@ fn rest_text(kind: Kind) -> &'static str
     }
 }
 
-/// What is said of the pages of a range.
+/// Returns the note on the pages of a range, which is empty if it consists of whole pages.
 fn pages_text<'a>(found: &Found<'a>) -> &'static str
     ensures { result.now ≡ pages_text (range_of found.now) }
 {
@@ -109,7 +109,7 @@ fn push_extent(text: &mut Vec<u8>, extent: Extent) -> Result<(), AllocError>
     push_address(text, extent.size)
 }
 
-/// Appends what a range is and where.
+/// Appends the description of a range: its node, kind and extent.
 #[tactic(auto, unfolding(crate::specs::Comments::range_text))]
 fn push_range<'a>(text: &mut Vec<u8>, found: &Found<'a>) -> Result<(), AllocError>
     ensures { OnOk result (text.new.items ≡ text.old.items ++ range_text (range_of found.now)) }
@@ -122,7 +122,7 @@ fn push_range<'a>(text: &mut Vec<u8>, found: &Found<'a>) -> Result<(), AllocErro
     push(text, pages_text(found))
 }
 
-/// Whether a kind is given by a run of that permission.
+/// Returns whether runs of this permission come from ranges of this kind.
 pub(crate) fn gives(kind: Kind, perm: Perm) -> bool
     ensures { result ≡ gives kind perm }
 {
@@ -133,7 +133,7 @@ pub(crate) fn gives(kind: Kind, perm: Perm) -> bool
     }
 }
 
-/// Whether pages have one in common with a run.
+/// Returns whether a run contains one of the pages.
 fn meets(pages: PageRange, run: &Run) -> bool
     ensures { result ≡ meets pages run.now }
 {
@@ -142,11 +142,18 @@ fn meets(pages: PageRange, run: &Run) -> bool
     pages.count > 0 && from_run && from_pages
 }
 
-/// Whether pages of a run are a range's.
+/// Returns whether a run contains some of the pages of a range of this kind.
+fn has_pages(run: &Run, kind: Kind, pages: PageRange) -> bool
+    ensures { result ≡ (gives kind run.now.perm && meets pages run.now) }
+{
+    gives(kind, run.perm) && meets(pages, run)
+}
+
+/// Returns whether the run contains pages of the range.
 fn is_from<'a>(run: &Run, found: &Found<'a>) -> bool
     ensures { result ≡ is_from run.now (range_of found.now) }
 {
-    gives(found.kind, run.perm) && meets(pages_of(found), run)
+    has_pages(run, found.kind, pages_of(found))
 }
 
 /// Appends the comment on a range.
@@ -158,7 +165,7 @@ fn push_named<'a>(text: &mut Vec<u8>, found: &Found<'a>) -> Result<(), AllocErro
     push(text, "\n")
 }
 
-/// Appends the comment on a range, where pages of a run are its.
+/// Appends the comment on a range if the run contains pages of it.
 fn push_comment<'a>(text: &mut Vec<u8>, run: &Run, found: &Found<'a>) -> Result<(), AllocError>
     ensures { OnOk result (text.new.items
         ≡ text.old.items ++ comment_text run.now (range_of found.now)) }
@@ -169,22 +176,43 @@ fn push_comment<'a>(text: &mut Vec<u8>, run: &Run, found: &Found<'a>) -> Result<
     Ok(())
 }
 
-/// Appends a comment on each range that pages of a run are.
+/// Appends the comment on a range with these pages, if the run contains some of them. Most ranges are left here, by their pages alone.
+#[inline(always)]
+#[tactic(auto, using(crate::proofs::PagesMet::kept))]
+fn push_comment_by<'a>(
+    text: &mut Vec<u8>,
+    run: &Run,
+    found: &Found<'a>,
+    pages: PageRange,
+) -> Result<(), AllocError>
+    requires { pages ≡ pages_of (range_of found.now) }
+    ensures { OnOk result (text.new.items
+        ≡ text.old.items ++ comment_text run.now (range_of found.now)) }
+{
+    if !meets(pages, run) {
+        return Ok(());
+    }
+    push_comment(text, run, found)
+}
+
+/// Appends the comments on all ranges that have pages in a run.
 pub(crate) fn push_comments<'a>(
     text: &mut Vec<u8>,
     run: &Run,
     found: &[Found<'a>],
+    pages: &[PageRange],
 ) -> Result<(), AllocError>
+    requires { pages.now ≡ all_pages found.now }
     ensures { OnOk result (text.new.items
         ≡ text.old.items ++ comments_on run.now (said_of found.now)) }
 {
-    for one in found {
-        push_comment(text, run, one)?;
+    for (i, pages) in pages.iter().enumerate() {
+        push_comment_by(text, run, &found[i], *pages)?;
     }
     Ok(())
 }
 
-/// Why a range is left out.
+/// Returns the reason why a range is left out.
 #[tactic(auto, unfolding(crate::specs::Comments::left_reason))]
 fn left_reason(kind: Kind) -> &'static str
     ensures { result.now ≡ left_reason kind }
@@ -199,19 +227,21 @@ fn left_reason(kind: Kind) -> &'static str
     }
 }
 
-/// Whether pages of one of the runs are a range's.
+/// Returns whether one of the runs contains pages of the range.
 fn is_in_runs<'a>(runs: &[Run], found: &Found<'a>) -> bool
     ensures { result ≡ list_any (λ run. is_from run (range_of found.now)) runs.now }
 {
+    let pages = pages_of(found);
+    let kind = found.kind;
     for run in runs {
-        if is_from(run, found) {
+        if has_pages(run, kind, pages) {
             return true;
         }
     }
     false
 }
 
-/// Whether the runs have no page of a range, which is no hart.
+/// Returns whether the range is left out, that is, no run contains a page of it. A hart is never left out.
 fn is_left<'a>(runs: &[Run], found: &Found<'a>) -> bool
     ensures { result ≡ is_left runs.now found.now.kind (range_of found.now) }
 {
@@ -225,7 +255,7 @@ fn is_left<'a>(runs: &[Run], found: &Found<'a>) -> bool
     }
 }
 
-/// Appends that a range is left out, and why.
+/// Appends the comment that a range is left out, with the reason.
 fn push_left_out<'a>(text: &mut Vec<u8>, found: &Found<'a>) -> Result<(), AllocError>
     ensures { OnOk result (text.new.items
         ≡ text.old.items ++ left_out_text (range_of found.now)) }
@@ -236,7 +266,7 @@ fn push_left_out<'a>(text: &mut Vec<u8>, found: &Found<'a>) -> Result<(), AllocE
     Ok(())
 }
 
-/// Appends that a range is left out, where it is.
+/// Appends this comment if the range is left out.
 fn push_left<'a>(text: &mut Vec<u8>, runs: &[Run], found: &Found<'a>) -> Result<(), AllocError>
     ensures { OnOk result (text.new.items
         ≡ text.old.items ++ left_text runs.now (range_of found.now)) }
@@ -247,7 +277,7 @@ fn push_left<'a>(text: &mut Vec<u8>, runs: &[Run], found: &Found<'a>) -> Result<
     Ok(())
 }
 
-/// Appends which ranges are left out.
+/// Appends a comment on each range that is left out.
 pub(crate) fn push_lefts<'a>(
     text: &mut Vec<u8>,
     runs: &[Run],

@@ -1,4 +1,4 @@
-//! Why there is no text of a board.
+//! Reasons why a board cannot be written as text.
 
 ghost use Rattle.std.specs.Prelude.{◌≡◌};
 ghost use Rattle.board_texts.specs.Faults.{fault_text, ranges_text, rule_text, tree_text};
@@ -7,26 +7,26 @@ use device_tree::{BoardFault, BoardReason, RowFault, TreeFault, TreeReason};
 use platforms::PlatformFault;
 use text_lines::{Line, push_decimal, push_text};
 
-/// Why there is no text of a board.
+/// The reason why a board cannot be written as text.
 #[derive(Clone, Copy, Debug, PartialEq, Eq)]
 pub enum BoardTextFault {
-    /// The bytes begin with no device tree that is read here.
+    /// The bytes do not begin with a device tree that this reader accepts.
     Tree(TreeFault),
-    /// The numbers of a node make no ranges.
+    /// The cells or rows of a node are invalid.
     Ranges(BoardFault),
     /// The map has more than 4096 ranges.
     TooManyRanges,
-    /// It is not known where the monitor is: no node of reserved memory has the start of memory.
+    /// The monitor's location is unknown: no reserved-memory node contains the start of memory.
     NoMonitor,
-    /// The ranges are no platform.
+    /// The ranges break a rule on platforms.
     Rule(PlatformFault),
-    /// The text is not read as what it was made of.
+    /// The text, parsed again, differs from its source.
     NotReadBack,
-    /// Memory was refused.
+    /// An allocation failed.
     Memory,
 }
 
-/// Why bytes are no tree.
+/// Describes why the bytes are not a device tree.
 fn tree_text(reason: TreeReason) -> &'static [u8]
     ensures { result.now ≡ tree_text reason }
 {
@@ -55,7 +55,7 @@ fn tree_text(reason: TreeReason) -> &'static [u8]
     }
 }
 
-/// Why a node's numbers make no ranges.
+/// Describes why the numbers of a node do not give ranges.
 fn ranges_text(reason: BoardReason) -> &'static [u8]
     ensures { result.now ≡ ranges_text reason }
 {
@@ -70,7 +70,7 @@ fn ranges_text(reason: BoardReason) -> &'static [u8]
     }
 }
 
-/// Why ranges are no platform.
+/// Describes the rule on platforms that is broken.
 fn rule_text(fault: PlatformFault) -> &'static [u8]
     ensures { result.now ≡ rule_text fault }
 {
@@ -84,7 +84,7 @@ fn rule_text(fault: PlatformFault) -> &'static [u8]
     }
 }
 
-/// `REASON, at byte OFFSET`, or the reason alone.
+/// Formats the fault as `REASON, at byte OFFSET`, or as the reason alone.
 pub fn fault_line(fault: &BoardTextFault) -> Line
     ensures { result ≡ fault_text fault.now }
 {

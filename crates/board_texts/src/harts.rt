@@ -1,4 +1,4 @@
-//! How many harts a tree has.
+//! Counts the harts of a tree.
 
 ghost use Rattle.std.specs.Prelude.{◌≡◌, ◌≤◌, length};
 ghost use Rattle.device_tree.specs.Meaning.{said_of};
@@ -16,7 +16,7 @@ fn is_hart(kind: Kind) -> bool
     }
 }
 
-/// How many harts the tree has in use.
+/// Counts the harts that the tree has in use.
 pub(crate) fn harts_of<'a>(found: &[Found<'a>]) -> u64
     ensures value { result ≡ harts_of (said_of found.now) }
 {
@@ -29,7 +29,7 @@ pub(crate) fn harts_of<'a>(found: &[Found<'a>]) -> u64
     harts
 }
 
-/// That many, at most four.
+/// Returns the number of harts in the platform, at most four.
 pub(crate) fn harts_used<'a>(found: &[Found<'a>]) -> u8
     ensures { result ≡ harts_used (said_of found.now) }
 {

@@ -1,9 +1,9 @@
-//! The map and the platform that a board's device tree says, as texts.
+//! The map and the platform of a board as text, generated from its device tree.
 //!
-//! For the layer above: [`map_text_of`] answers the map of a flattened tree and [`platform_text_of`] the platform, each with
-//! comments that say which node a range is from, what its pages are, and what is left out. Both read the text back before they
-//! answer it, by the readers of maps and of platforms. [`is_tree`] says whether bytes begin as a flattened tree does, and
-//! [`fault_line`] why there is no text.
+//! [`map_text_of`] returns the map of a flattened tree and [`platform_text_of`] its platform. Comments in both texts
+//! name the node of each range, describe its pages, and list what is left out. Both functions parse the text with the
+//! reader of maps or platforms before they return it. [`is_tree`] returns whether bytes begin with the magic number of
+//! a flattened tree, and [`fault_line`] formats the reason for a failure.
 //!
 //! ```rust
 //! let text = platform_text_of(rt.alloc(), tree, None)?;

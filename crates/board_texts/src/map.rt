@@ -10,14 +10,16 @@ ghost use Rattle.device_tree.specs.Trees.{ReadsAs};
 ghost use Rattle.device_tree.specs.Meaning.{Range, TreeSays, said_of};
 ghost use Rattle.board_texts.specs.Boards.{IsBoardMap, IsLateFault, IsMapOfTree, IsNoMap, IsReadFault, board_map_text, item_text, lines_text, map_head, run_text};
 ghost use Rattle.board_texts.specs.Comments.{comments_on};
+ghost use Rattle.board_texts.specs.Pages.{all_pages};
 
 use crate::comments::{push_comments, push_lefts, push_reservations};
 use crate::fault::BoardTextFault;
+use crate::pages::all_pages;
 use crate::read_back::makes;
 use crate::view::{NOWHERE, board_map};
 use device_tree::{Found, PlacedPiece, Reservation, ranges_of, read_tree};
 use permission_map::{MapFault, PermissionMap, Run};
-use pmp_encoding::PAGE_SIZE;
+use pmp_encoding::{PAGE_SIZE, PageRange};
 use std::alloc::{AllocError, Global};
 use text_lines::{push, push_address};
 
@@ -34,32 +36,40 @@ fn push_run(text: &mut Vec<u8>, run: &Run) -> Result<(), AllocError>
     push(text, "\n")
 }
 
-/// Appends a run, with the ranges that it is from.
-fn push_item<'a>(text: &mut Vec<u8>, run: &Run, found: &[Found<'a>]) -> Result<(), AllocError>
-    requires { end_of run.now ≤ 2 ^ 44 }
+/// Appends a run after the comments on its ranges.
+fn push_item<'a>(
+    text: &mut Vec<u8>,
+    run: &Run,
+    found: &[Found<'a>],
+    pages: &[PageRange],
+) -> Result<(), AllocError>
+    requires inside { end_of run.now ≤ 2 ^ 44 }
+    requires paged { pages.now ≡ all_pages found.now }
     ensures { OnOk result (text.new.items
         ≡ text.old.items ++ item_text (said_of found.now) run.now) }
 {
-    push_comments(text, run, found)?;
+    push_comments(text, run, found, pages)?;
     push_run(text, run)
 }
 
-/// Appends the runs of a map, each with the ranges that it is from.
+/// Appends the runs of a map, each after the comments on its ranges.
 fn push_lines<'a>(
     text: &mut Vec<u8>,
     map: &PermissionMap,
     found: &[Found<'a>],
+    pages: &[PageRange],
 ) -> Result<(), AllocError>
+    requires { pages.now ≡ all_pages found.now }
     ensures { OnOk result (text.new.items
         ≡ text.old.items ++ lines_text (said_of found.now) map.now) }
 {
     for run in map.ranges() {
-        push_item(text, run, found)?;
+        push_item(text, run, found, pages)?;
     }
     Ok(())
 }
 
-/// What a map begins with.
+/// Returns the first lines of a map.
 #[tactic(auto, unfolding(crate::specs::Boards::map_head))]
 fn map_head() -> &'static str
     ensures { result.now ≡ map_head }
@@ -67,7 +77,7 @@ fn map_head() -> &'static str
     "# The map of a device tree: memory rwx, devices rw. It does not name nodes that are\n# not in use, /reserved-memory without no-map or reg, and what is reached through PCI.\n"
 }
 
-/// The text of a map. The only error is out of memory.
+/// Returns the text of a map. The only error is a failed allocation.
 fn text_of<'a>(
     alloc: Global,
     map: &PermissionMap,
@@ -79,13 +89,14 @@ fn text_of<'a>(
 {
     let mut text = Vec::new(alloc);
     push(&mut text, map_head())?;
-    push_lines(&mut text, map, found)?;
+    let pages = all_pages(alloc, found)?;
+    push_lines(&mut text, map, found, pages.as_slice())?;
     push_lefts(&mut text, map.ranges(), found)?;
     push_reservations(&mut text, reservations)?;
     Ok(text)
 }
 
-/// The map of a board, as text.
+/// Returns the map of a board as text.
 fn map_of_board<'a>(
     alloc: Global,
     found: &[Found<'a>],
@@ -110,7 +121,7 @@ fn map_of_board<'a>(
     }
 }
 
-/// The map of the board whose tree has these pieces.
+/// Returns the map of the board whose tree has these pieces, as text.
 fn map_of_pieces<'a>(
     alloc: Global,
     pieces: &'a [PlacedPiece<'a>],
@@ -133,10 +144,10 @@ fn map_of_pieces<'a>(
     }
 }
 
-/// The map of a board whose flattened device tree the bytes begin with, as text.
+/// Returns the map of a board as text, given bytes that begin with its flattened device tree.
 ///
-/// Refused where they begin with none, where the tree says no ranges, or where the map has more than 4096. Memory can be refused
-/// for each part of the tree and of the text.
+/// Fails if the bytes do not begin with a tree, if the tree gives no valid ranges, if the map has more than 4096, or if
+/// an allocation fails.
 pub fn map_text_of(alloc: Global, bytes: &[u8]) -> Result<Vec<u8>, BoardTextFault>
     ensures ok { IfOk result (λ text. IsMapOfTree bytes.now text.items) }
     ensures refused { IfErr result (IsNoMap bytes.now) }

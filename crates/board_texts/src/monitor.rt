@@ -1,4 +1,4 @@
-//! Where the monitor is, as a tree says.
+//! Finds the monitor's range in a tree.
 
 ghost use Rattle.std.specs.Prelude.{◌≡◌, ◌+◌, ◌^◌, ◌≤◌, IfSome};
 ghost use Rattle.std.specs.List.{list_any};
@@ -9,7 +9,7 @@ use crate::pages::outer;
 use device_tree::{Extent, Found, Kind};
 use pmp_encoding::PageRange;
 
-/// Whether a byte is one of the extent's.
+/// Returns whether the extent contains the byte.
 fn has_byte(extent: Extent, at: u64) -> bool
     ensures { result ≡ has_byte extent at }
 {
@@ -34,7 +34,7 @@ fn is_reserved(kind: Kind) -> bool
     }
 }
 
-/// Whether a range of memory begins in the extent.
+/// Returns whether the start of a range of memory is inside the extent.
 fn memory_begins_in<'a>(found: &[Found<'a>], extent: Extent) -> bool
     ensures { result ≡ list_any (begins_in extent) (said_of found.now) }
 {
@@ -46,7 +46,7 @@ fn memory_begins_in<'a>(found: &[Found<'a>], extent: Extent) -> bool
     false
 }
 
-/// The pages of the first reserved range in which memory begins.
+/// Returns the pages of the first reserved range that contains the start of a range of memory.
 pub(crate) fn monitor_in<'a>(found: &[Found<'a>]) -> Option<PageRange>
     ensures value { result ≡ monitor_in (said_of found.now) (said_of found.now) }
     ensures inside { IfSome result (λ pages. pages.first + pages.count ≤ 2 ^ 44) }

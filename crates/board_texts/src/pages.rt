@@ -1,21 +1,22 @@
-//! Which pages a range of a board has.
+//! The pages of a board's ranges.
 
-ghost use Rattle.std.specs.Prelude.{◌≡◌, ◌+◌, ◌^◌, ◌<◌, ◌≤◌, ℕ};
+ghost use Rattle.std.specs.Prelude.{◌≡◌, ◌+◌, ◌^◌, ◌<◌, ◌≤◌, ℕ, IfOk};
 ghost use Rattle.pmp_encoding.specs.Views.{in_range};
 ghost use Rattle.device_tree.specs.declared.rows.Extent.{Extent};
-ghost use Rattle.board_texts.specs.Pages.{has_all_of, has_byte_of, inner, outer, page_from, page_of, pages_of, range_of, span};
+ghost use Rattle.board_texts.specs.Pages.{all_pages, has_all_of, has_byte_of, inner, outer, page_from, page_of, pages_of, range_of, span};
 
 use device_tree::{Extent, Found, Kind};
 use pmp_encoding::{PAGE_SIZE, PageRange, SPACE_PAGES};
+use std::alloc::{AllocError, Global};
 
-/// The page of a byte, or the end of the space.
+/// Returns the page of a byte, at most the end of the space.
 fn page_of(byte: u64) -> u64
     ensures { result ≡ page_of byte }
 {
     (byte / PAGE_SIZE).min(SPACE_PAGES)
 }
 
-/// The first page that does not begin before the byte, or the end of the space.
+/// Returns the first page that does not begin before the byte, at most the end of the space.
 fn page_from(byte: u64) -> u64
     ensures { result ≡ page_from byte }
 {
@@ -26,7 +27,7 @@ fn page_from(byte: u64) -> u64
     (page + 1).min(SPACE_PAGES)
 }
 
-/// The first page behind the extent.
+/// Returns the first page after the extent.
 fn page_behind(extent: Extent) -> u64
     ensures { result ≡ page_from (extent.base + extent.size) }
 {
@@ -36,7 +37,7 @@ fn page_behind(extent: Extent) -> u64
     }
 }
 
-/// The page that the extent ends in, or at the beginning of.
+/// Returns the page that contains the end of the extent, or begins there.
 fn page_within(extent: Extent) -> u64
     ensures { result ≡ page_of (extent.base + extent.size) }
 {
@@ -46,7 +47,7 @@ fn page_within(extent: Extent) -> u64
     }
 }
 
-/// The pages from one to another.
+/// Returns the pages from `first` up to `end`.
 fn span(first: u64, end: u64) -> PageRange
     requires begins { first ≤ 2 ^ 44 }
     requires ends { end ≤ 2 ^ 44 }
@@ -59,7 +60,7 @@ fn span(first: u64, end: u64) -> PageRange
     }
 }
 
-/// The pages that have a byte of the extent.
+/// Returns the pages that contain a byte of the extent.
 pub(crate) fn outer(extent: Extent) -> PageRange
     ensures value { result ≡ outer extent }
     ensures inside { result.first + result.count ≤ 2 ^ 44 }
@@ -70,7 +71,7 @@ pub(crate) fn outer(extent: Extent) -> PageRange
     span(page_of(extent.base), page_behind(extent))
 }
 
-/// The pages whose bytes are all the extent's.
+/// Returns the pages that lie entirely in the extent.
 fn inner(extent: Extent) -> PageRange
     ensures value { result ≡ inner extent }
     ensures inside { result.first + result.count ≤ 2 ^ 44 }
@@ -78,7 +79,7 @@ fn inner(extent: Extent) -> PageRange
     span(page_from(extent.base), page_within(extent))
 }
 
-/// The pages that a range stands for.
+/// Returns the pages of a range: whole pages for memory, and every page with a byte of the range for other kinds.
 pub(crate) fn pages_of<'a>(found: &Found<'a>) -> PageRange
     ensures value { result ≡ pages_of (range_of found.now) }
     ensures inside { result.first + result.count ≤ 2 ^ 44 }
@@ -93,7 +94,21 @@ pub(crate) fn pages_of<'a>(found: &Found<'a>) -> PageRange
     }
 }
 
-/// The pages that have a byte of an extent are `outer` ones, and those that have no byte of anything else are `inner` ones.
+/// Returns the pages of each range, in their order.
+pub(crate) fn all_pages<'a>(
+    alloc: Global,
+    found: &[Found<'a>],
+) -> Result<Vec<PageRange>, AllocError>
+    ensures { IfOk result (λ pages. pages.items ≡ all_pages found.now) }
+{
+    let mut pages = Vec::new(alloc);
+    for one in found {
+        pages.push(pages_of(one))?;
+    }
+    Ok(pages)
+}
+
+/// `outer` contains exactly the pages with a byte of the extent, and `inner` exactly the pages that lie entirely in it.
 pub fn pages_law()
     ensures outer { (extent : Extent) (page : ℕ) → page < 2 ^ 44
         → in_range (outer extent).first (outer extent).count page ≡ has_byte_of extent page }

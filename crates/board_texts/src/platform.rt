@@ -1,4 +1,4 @@
-//! The platform of a board, as text.
+//! The platform of a board as text.
 
 ghost use Rattle.std.specs.Prelude.{◌≡◌, ◌≢◌, ◌+◌, ◌*◌, ◌^◌, ◌<◌, ◌≤◌, ℕ, List, Option, IfErr, IfOk, OnOk, None, Some, Err};
 ghost use Rattle.permission_map.specs.Runs.{AreRuns, end_of, view_of_runs};
@@ -27,7 +27,7 @@ use platforms::{Platform, PlatformFault};
 use pmp_encoding::{PAGE_SIZE, PageRange, Perm};
 use std::alloc::{AllocError, Global};
 
-/// The monitor's base and size: as they are given, else as the tree says.
+/// Returns the monitor's base and size: the given ones, otherwise those from the tree.
 fn monitor_of<'a>(given: Option<(u64, u64)>, found: &[Found<'a>]) -> Option<(u64, u64)>
     ensures { result ≡ monitor_of given (said_of found.now) }
 {
@@ -38,7 +38,7 @@ fn monitor_of<'a>(given: Option<(u64, u64)>, found: &[Found<'a>]) -> Option<(u64
     Some((PAGE_SIZE * pages.first, PAGE_SIZE * pages.count))
 }
 
-/// The base and the size of a run, in bytes.
+/// Returns the base and the size of a run in bytes.
 fn bytes_of(run: &Run) -> (u64, u64)
     requires { end_of run.now ≤ 2 ^ 44 }
     ensures { result ≡ (4096 * run.now.first, 4096 * run.now.count) }
@@ -46,7 +46,7 @@ fn bytes_of(run: &Run) -> (u64, u64)
     (PAGE_SIZE * run.first, PAGE_SIZE * run.count)
 }
 
-/// The device that a run is.
+/// Returns the device that a run represents.
 fn device_of(run: &Run) -> (u64, u64, Perm)
     requires { end_of run.now ≤ 2 ^ 44 }
     ensures { result ≡ (4096 * run.now.first, 4096 * run.now.count, ReadWrite) }
@@ -58,7 +58,7 @@ fn device_of(run: &Run) -> (u64, u64, Perm)
     )
 }
 
-/// The ranges of memory that runs are.
+/// Returns the ranges of memory among the runs of a map.
 fn ram_of(alloc: Global, map: &PermissionMap) -> Result<Vec<(u64, u64)>, AllocError>
     ensures { IfOk result (λ ram. ram.items ≡ ram_of map.now) }
 {
@@ -71,7 +71,7 @@ fn ram_of(alloc: Global, map: &PermissionMap) -> Result<Vec<(u64, u64)>, AllocEr
     Ok(ram)
 }
 
-/// The devices that runs are.
+/// Returns the devices among the runs of a map.
 fn devices_of(alloc: Global, map: &PermissionMap) -> Result<Vec<(u64, u64, Perm)>, AllocError>
     ensures { IfOk result (λ devices. devices.items ≡ devices_of map.now) }
 {
@@ -84,7 +84,7 @@ fn devices_of(alloc: Global, map: &PermissionMap) -> Result<Vec<(u64, u64, Perm)
     Ok(devices)
 }
 
-/// Whether the ranges and harts are a platform's.
+/// Returns whether the ranges and harts form a platform.
 fn builds(
     monitor: (u64, u64),
     ram: &[(u64, u64)],
@@ -107,7 +107,7 @@ fn builds(
     }
 }
 
-/// The text of the platform of a map, where the map is one.
+/// Returns the text of the platform of a map, if its ranges form one.
 fn platform_of_map<'a>(
     alloc: Global,
     given: Option<(u64, u64)>,
@@ -150,7 +150,7 @@ fn platform_of_map<'a>(
     }
 }
 
-/// The map of a board, on which nothing is denied on the pages of the monitor.
+/// Returns the map of a board. Pages of the monitor are not denied.
 fn kept_map<'a>(
     alloc: Global,
     found: &[Found<'a>],
@@ -170,7 +170,7 @@ fn kept_map<'a>(
     }
 }
 
-/// The platform of a board, as text.
+/// Returns the platform of a board as text.
 fn platform_of_board<'a>(
     alloc: Global,
     given: Option<(u64, u64)>,
@@ -195,7 +195,7 @@ fn platform_of_board<'a>(
     }
 }
 
-/// The platform of the board whose tree has these pieces.
+/// Returns the platform of the board whose tree has these pieces, as text.
 fn platform_of_pieces<'a>(
     alloc: Global,
     given: Option<(u64, u64)>,
@@ -219,11 +219,11 @@ fn platform_of_pieces<'a>(
     }
 }
 
-/// The platform of a board whose flattened device tree the bytes begin with, as text. The monitor's base and size are given, or
-/// those of the first node of reserved memory in which memory begins.
+/// Returns the platform of a board as text, given bytes that begin with its flattened device tree. The monitor's base
+/// and size are the given ones, or those of the first reserved-memory node that contains the start of memory.
 ///
-/// Refused where the bytes begin with no tree, where the tree says no ranges or not where the monitor is, and where its ranges and
-/// harts break a rule on platforms. Memory can be refused for each part of the tree and of the text.
+/// Fails if the bytes do not begin with a tree, if the tree gives no valid ranges or no location of the monitor, if the
+/// ranges and harts break a rule on platforms, or if an allocation fails.
 pub fn platform_text_of(
     alloc: Global,
     bytes: &[u8],

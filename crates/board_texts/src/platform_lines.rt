@@ -4,13 +4,15 @@ ghost use Rattle.std.specs.Prelude.{◌≡◌, ◌++◌, ◌+◌, ◌^◌, ◌�
 ghost use Rattle.permission_map.specs.Runs.{end_of};
 ghost use Rattle.device_tree.specs.Meaning.{said_of};
 ghost use Rattle.board_texts.specs.Comments.{comments_on};
+ghost use Rattle.board_texts.specs.Pages.{all_pages};
 ghost use Rattle.board_texts.specs.Platforms.{board_platform_text, entries_text, given_text, harts_text, head_text, keys_text, part_text, platform_head, table_text, tables_text};
 
 use crate::comments::{gives, push_comments, push_lefts, push_reservations};
 use crate::harts::{harts_of, harts_used};
+use crate::pages::all_pages;
 use device_tree::{Found, Kind, Reservation};
 use permission_map::{PermissionMap, Run};
-use pmp_encoding::PAGE_SIZE;
+use pmp_encoding::{PAGE_SIZE, PageRange};
 use std::alloc::{AllocError, Global};
 use text_lines::{push, push_address, push_number};
 
@@ -41,33 +43,41 @@ fn push_table(text: &mut Vec<u8>, run: &Run) -> Result<(), AllocError>
     push(text, "perm = \"rw\"\n")
 }
 
-/// Appends a run: the ranges that it is from, and its table.
-fn push_part<'a>(text: &mut Vec<u8>, run: &Run, found: &[Found<'a>]) -> Result<(), AllocError>
-    requires { end_of run.now ≤ 2 ^ 44 }
+/// Appends the comments on the ranges of a run, and its table.
+fn push_part<'a>(
+    text: &mut Vec<u8>,
+    run: &Run,
+    found: &[Found<'a>],
+    pages: &[PageRange],
+) -> Result<(), AllocError>
+    requires inside { end_of run.now ≤ 2 ^ 44 }
+    requires paged { pages.now ≡ all_pages found.now }
     ensures { OnOk result (text.new.items
         ≡ text.old.items ++ part_text (said_of found.now) run.now) }
 {
     push(text, "\n")?;
-    push_comments(text, run, found)?;
+    push_comments(text, run, found, pages)?;
     push_table(text, run)
 }
 
-/// Appends each run: the ranges that it is from, and its table.
+/// Appends each run: the comments on its ranges, and its table.
 fn push_tables<'a>(
     text: &mut Vec<u8>,
     map: &PermissionMap,
     found: &[Found<'a>],
+    pages: &[PageRange],
 ) -> Result<(), AllocError>
+    requires { pages.now ≡ all_pages found.now }
     ensures { OnOk result (text.new.items
         ≡ text.old.items ++ tables_text (said_of found.now) map.now) }
 {
     for run in map.ranges() {
-        push_part(text, run, found)?;
+        push_part(text, run, found, pages)?;
     }
     Ok(())
 }
 
-/// Appends how many harts there are.
+/// Appends the numbers of harts.
 fn push_harts(text: &mut Vec<u8>, used: u64, harts: u64) -> Result<(), AllocError>
     ensures { OnOk result (text.new.items ≡ text.old.items ++ harts_text used harts) }
 {
@@ -78,7 +88,7 @@ fn push_harts(text: &mut Vec<u8>, used: u64, harts: u64) -> Result<(), AllocErro
     push(text, " in use\n")
 }
 
-/// Where the monitor is from.
+/// Returns the comment on the origin of the monitor's range.
 fn given_text(given: Option<(u64, u64)>) -> &'static str
     ensures { result.now ≡ given_text given }
 {
@@ -88,7 +98,7 @@ fn given_text(given: Option<(u64, u64)>) -> &'static str
     }
 }
 
-/// What a platform begins with.
+/// Returns the first lines of a platform.
 #[tactic(auto, unfolding(crate::specs::Platforms::platform_head))]
 fn platform_head() -> &'static str
     ensures { result.now ≡ platform_head }
@@ -96,7 +106,7 @@ fn platform_head() -> &'static str
     "# The platform of a device tree. It does not name nodes that are not in use,\n# /reserved-memory without no-map or reg, and what is reached through PCI.\n# A device that reads or writes memory by itself reaches all of it: take out the\n# table of each that the host is not to have.\n"
 }
 
-/// How many entries there are, and whose table comes then.
+/// Returns the line with the number of PMP entries, and the header of the monitor's table.
 #[tactic(auto, unfolding(crate::specs::Platforms::entries_text))]
 fn entries_text() -> &'static str
     ensures { result.now ≡ entries_text }
@@ -121,7 +131,7 @@ fn push_head<'a>(
     push_keys(text, monitor.0, monitor.1)
 }
 
-/// The text of a platform. The only error is out of memory.
+/// Returns the text of a platform. The only error is a failed allocation.
 pub(crate) fn platform_lines<'a>(
     alloc: Global,
     given: Option<(u64, u64)>,
@@ -135,7 +145,8 @@ pub(crate) fn platform_lines<'a>(
     let (map, found, reservations) = board;
     let mut text = Vec::new(alloc);
     push_head(&mut text, given, monitor, found)?;
-    push_tables(&mut text, map, found)?;
+    let pages = all_pages(alloc, found)?;
+    push_tables(&mut text, map, found, pages.as_slice())?;
     push(&mut text, "\n")?;
     push_lefts(&mut text, map.ranges(), found)?;
     push_reservations(&mut text, reservations)?;

@@ -1,4 +1,4 @@
-//! What a text is, as its reader has it: what is printed is what was meant.
+//! Reads a generated text back, to check that it means what was intended.
 
 ghost use Rattle.std.specs.Prelude.{◌≡◌, ◌-◌, ◌<◌, ◌^◌, Ok, length, true};
 ghost use Rattle.map_text.specs.MapFile.{Makes};
@@ -10,7 +10,7 @@ use permission_map::{PermissionMap, Run};
 use pmp_encoding::Perm;
 use std::alloc::Global;
 
-/// Whether two lists of runs are the same.
+/// Returns whether two lists of runs are equal.
 fn are_same_runs(runs: &[Run], others: &[Run]) -> bool
     ensures { result ≡ true → runs.now ≡ others.now }
 {
@@ -29,7 +29,7 @@ fn are_same_runs(runs: &[Run], others: &[Run]) -> bool
     true
 }
 
-/// Whether the text of a map makes that map.
+/// Returns whether parsing the text gives the map.
 pub(crate) fn makes(alloc: Global, text: &[u8], map: &PermissionMap) -> Result<bool, TextFault>
     requires { length text.now < 2 ^ 64 - 1 }
     ensures { result ≡ Ok true → Makes text.now map.now }
@@ -41,7 +41,7 @@ pub(crate) fn makes(alloc: Global, text: &[u8], map: &PermissionMap) -> Result<b
     }
 }
 
-/// Whether two lists of ranges are the same.
+/// Returns whether two lists of ranges are equal.
 fn are_same_ranges(ranges: &[(u64, u64)], others: &[(u64, u64)]) -> bool
     ensures { result ≡ true → ranges.now ≡ others.now }
 {
@@ -60,7 +60,7 @@ fn are_same_ranges(ranges: &[(u64, u64)], others: &[(u64, u64)]) -> bool
     true
 }
 
-/// Whether two lists of devices are the same.
+/// Returns whether two lists of devices are equal.
 fn are_same_devices(devices: &[(u64, u64, Perm)], others: &[(u64, u64, Perm)]) -> bool
     ensures { result ≡ true → devices.now ≡ others.now }
 {
@@ -79,7 +79,7 @@ fn are_same_devices(devices: &[(u64, u64, Perm)], others: &[(u64, u64, Perm)]) -
     true
 }
 
-/// Whether a form is of these numbers and ranges, and of sixteen entries.
+/// Returns whether a form has these numbers and ranges, and sixteen PMP entries.
 fn is_form_of(
     form: &PlatformForm,
     numbers: ((u64, u64), u64),
@@ -99,7 +99,7 @@ fn is_form_of(
         && are_same_devices(form.devices.as_slice(), devices)
 }
 
-/// Whether the text is the platform of these numbers and ranges, as far as its form goes.
+/// Returns whether the text, as its parsed form, is the platform of these numbers and ranges.
 pub(crate) fn is_platform(
     alloc: Global,
     text: &[u8],

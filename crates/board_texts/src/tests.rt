@@ -1,12 +1,12 @@
-//! A small tree: its map and its platform.
+//! Tests of the map and the platform of a small tree.
 
 use crate::{BoardTextFault, fault_line, is_tree, map_text_of, platform_text_of};
 use platforms::PlatformFault;
 use std::alloc::Global;
 use std::process::Abort;
 
-/// A hart; memory of 66 KiB at 0x80000000, of which a node of reserved memory keeps the first page; and on a bus a UART of 256 bytes
-/// and a CLINT. `dtc` made it, with a reservation of one page.
+/// A hart, memory of 66 KiB at 0x80000000 whose first page is in a reserved-memory node, and a bus with a UART of 256
+/// bytes and a CLINT. Made by `dtc`, with a memory reservation of one page.
 #[rattlefmt::skip]
 const SMALL: [u8; 660] = [
     0xd0, 0x0d, 0xfe, 0xed, 0, 0, 2, 0x94, 0, 0, 0, 0x48, 0, 0, 2, 0x50, 0, 0, 0, 0x28, 0, 0, 0,

@@ -1,9 +1,9 @@
-//! How bytes begin.
+//! Recognition of flattened device trees.
 
 ghost use Rattle.std.specs.Prelude.{◌≡◌};
 ghost use Rattle.board_texts.specs.Boards.{is_tree};
 
-/// Whether bytes begin as a flattened device tree does.
+/// Returns whether bytes begin with the magic number of a flattened device tree.
 pub fn is_tree(bytes: &[u8]) -> bool
     ensures { result ≡ is_tree bytes.now }
 {

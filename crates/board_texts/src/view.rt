@@ -1,4 +1,4 @@
-//! The map of a board: what it gives on each page.
+//! The map of a board.
 
 ghost use Rattle.std.specs.Prelude.{◌≡◌, ◌+◌, ◌-◌, ◌^◌, ◌<◌, ◌≤◌, [], ◌∷◌, IfOk, OnOk, ◌&&◌, not, cond};
 ghost use Rattle.permission_map.specs.Runs.{view_of_runs};
@@ -14,7 +14,7 @@ use permission_map::{MapFault, PermissionMap};
 use pmp_encoding::{PageRange, Perm};
 use std::alloc::Global;
 
-/// Ranges of one kind of permission.
+/// A class of ranges with one permission.
 #[derive(Clone, Copy)]
 pub(crate) enum Layer {
     Devices,
@@ -25,7 +25,7 @@ pub(crate) enum Layer {
 /// No pages.
 pub(crate) const NOWHERE: PageRange = PageRange { first: 0, count: 0 };
 
-/// Whether ranges of a kind are in the layer.
+/// Returns whether ranges of the kind are in the layer.
 fn is_in(layer: Layer, kind: Kind) -> bool
     ensures { result ≡ is_in layer kind }
 {
@@ -38,7 +38,7 @@ fn is_in(layer: Layer, kind: Kind) -> bool
     }
 }
 
-/// The permission of a layer.
+/// Returns the permission of a layer.
 fn perm_of(layer: Layer) -> Perm
     ensures { result ≡ perm_of layer }
 {
@@ -49,7 +49,7 @@ fn perm_of(layer: Layer) -> Perm
     }
 }
 
-/// Sets the permission of the pages from one to another.
+/// Sets the permission of the pages from `first` up to `end`.
 fn set_span(map: &mut PermissionMap, first: u64, end: u64, perm: Perm) -> Result<(), MapFault>
     requires { end ≤ 2 ^ 44 }
     ensures { OnOk result (SameView (view_of_runs map.new)
@@ -61,7 +61,7 @@ fn set_span(map: &mut PermissionMap, first: u64, end: u64, perm: Perm) -> Result
     map.set_range(first, end - first, perm)
 }
 
-/// Sets the permission of pages, but not of those that are kept.
+/// Sets the permission of pages outside `kept`.
 fn set_apart(
     map: &mut PermissionMap,
     pages: PageRange,
@@ -80,7 +80,7 @@ fn set_apart(
     set_span(map, pages.first.max(behind), end, perm)
 }
 
-/// Lays the pages of a range on a map, where it is of the layer.
+/// Sets the permission of a range's pages outside `kept`, if it is in the layer.
 fn lay_range<'a>(
     map: &mut PermissionMap,
     found: &Found<'a>,
@@ -97,7 +97,7 @@ fn lay_range<'a>(
     set_apart(map, pages_of(found), kept, perm_of(layer))
 }
 
-/// Lays the ranges of a layer on a map, but not on the pages that are kept.
+/// Sets the permission of a layer on the pages of its ranges outside `kept`.
 fn lay<'a>(
     map: &mut PermissionMap,
     found: &[Found<'a>],
@@ -117,7 +117,7 @@ fn lay<'a>(
     Ok(())
 }
 
-/// The map of what a board gives on each page. Nothing is denied on the pages that are kept.
+/// Returns the map of a board. Pages in `kept` are not denied.
 pub(crate) fn board_map<'a>(
     alloc: Global,
     found: &[Found<'a>],

@@ -1,4 +1,4 @@
--- Right certificates for a view, and why bytes are none.
+-- Right certificates for a view, and faults in bytes that are not one.
 use Rattle.std.specs.Prelude.{◌≡◌, ◌≢◌, ℕ, ◌*◌, ◌^◌, ◌<◌, ◌≤◌, ◌⊎◌, List, [], ◌++◌, length, Result}
 use Rattle.std.specs.Prelude.{MatchResult}
 use Rattle.pmp_encoding.specs.declared.perm.Perm.TheVariants.{NoAccess}
@@ -19,7 +19,8 @@ use Rattle.certificate_check.specs.Refusals.{refusal_of}
 use Rattle.certificate_check.specs.Listed.{AreListed, IsListed, ListFault}
 use Rattle.certificate_check.specs.Nodes.{IsRightNode, NodeFault}
 
--- the bytes are a certificate of n entries that mean the view, whose table is a sound bound of it
+-- the bytes are a certificate of n entries that mean the view, and its table is a sound bound of
+-- the view
 pub record IsRight (view : View) (bytes : List ℕ) (n : ℕ) : Type 0 where
   pub version : Version
   pub entries : List Entry
@@ -29,7 +30,7 @@ pub record IsRight (view : View) (bytes : List ℕ) (n : ℕ) : Type 0 where
   pub means : Means entries view
   pub count : length entries ≡ n
 
--- the bytes spell n entries, which are the fewest that mean the view
+-- the bytes contain n entries, which are the fewest that mean the view
 pub record HoldsFewest (view : View) (bytes : List ℕ) (n : ℕ) : Type 0 where
   pub version : Version
   pub entries : List Entry
@@ -38,8 +39,7 @@ pub record HoldsFewest (view : View) (bytes : List ℕ) (n : ℕ) : Type 0 where
   pub count : length entries ≡ n
   pub fewest : IsFewest view entries
 
--- header, entries of a page at least and a right root are at the front of the bytes, before the
--- rest
+-- before the rest, the bytes contain a header, entries of at least a page and a right root
 pub record IsReadWhole (view : View) (bytes rest : List ℕ) (entries : List Entry)
     (tree : BoundTree) : Type 0 where
   pub header : Header
@@ -50,8 +50,8 @@ pub record IsReadWhole (view : View) (bytes rest : List ℕ) (entries : List Ent
   pub listed : IsListed behind (node_bytes tree ++ rest) entries
   pub right : IsRightNode view 44 0 tree
 
--- header and entries of a page at least are at the front of the bytes, before the rest; the list
--- has the bytes of the entries
+-- before the rest, the bytes contain a header and entries of at least a page; `list` contains the
+-- bytes of the entries
 pub record IsBegun (bytes list rest : List ℕ) (header : Header) (entries : List Entry) :
     Type 0 where
   pub behind : List ℕ
@@ -61,7 +61,7 @@ pub record IsBegun (bytes list rest : List ℕ) (header : Header) (entries : Lis
   pub listed : IsListed behind rest entries
   pub spelled : SpellsEntries list entries
 
--- the fault of a refusal is in the bytes
+-- the bytes contain the fault of a refusal
 pub data RefusalStands (view : View) (bytes : List ℕ) : CheckRefusal → Type 0 where
   in_header : (fault : ReadFault) → HeaderFault bytes fault
       → RefusalStands view bytes (refusal_of fault)
@@ -90,27 +90,27 @@ pub data RefusalStands (view : View) (bytes : List ℕ) : CheckRefusal → Type 
       → Means entries view → rest ≢ []
       → RefusalStands view bytes Trailing
 
--- a header that was read is at the front of the bytes, which are a right certificate
+-- the bytes begin with the header and are a right certificate
 pub record IsRightWith (view : View) (bytes : List ℕ) (header : Header) : Type 0 where
   pub right : IsRight view bytes header.count
   pub behind : List ℕ
   pub headed : bytes ≡ header_bytes header ++ behind
   pub small : header.count < 2 ^ 32
 
--- what was found of the bytes is so: they are a right certificate with that header, or the fault of
--- that refusal is in them
+-- the verdict is right: the bytes are a right certificate with that header, or contain the fault of
+-- that refusal
 abbrev pub IsJudged : View → List ℕ → Result Header CheckRefusal → Type 0
 IsJudged view bytes found = MatchResult found (IsRightWith view bytes) (RefusalStands view bytes)
 
--- the bytes begin with a header, and the entries that it tells of may come: nine bytes each, and so
--- many bytes may
+-- the bytes begin with a header whose entries, nine bytes each, do not exceed `most`
 pub record ClaimFitsFile (most : ℕ) (bytes : List ℕ) : Type 0 where
   pub header : Header
   pub rest : List ℕ
   pub headed : bytes ≡ header_bytes header ++ rest
   pub few : 9 * header.count ≤ most
 
--- the entries that a header tells of are not held: that many may come, or all of them have come
+-- the entries of the header cannot be stored: either they do not exceed `most`, or all of them have
+-- arrived
 pub record CertificateNotStored (most : ℕ) (bytes rest : List ℕ) : Type 0 where
   pub header : Header
   pub behind : List ℕ

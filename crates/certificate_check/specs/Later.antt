@@ -14,6 +14,6 @@ abbrev pub StartsBehind : ℕ → List Run → Type 0
 StartsBehind page [] = Unit {0}
 StartsBehind page (run ∷ runs) = page < end_of run
 
--- the views have the same permission at each page from this one on
+-- the views agree on each page from this one on
 abbrev pub AgreeFrom : ℕ → View → View → Type 0
 AgreeFrom page view other = (at : ℕ) → page ≤ at → view at ≡ other at

@@ -1,4 +1,4 @@
--- The nodes of a certificate against a view.
+-- The nodes of a certificate, compared with a view.
 use Rattle.std.specs.Prelude.{◌≡◌, ◌≢◌, ℕ, suc, ◌+◌, ◌^◌, ◌<◌, ◌≤◌, ◌⊎◌, List, ◌∷◌, ◌++◌, Result}
 use Rattle.std.specs.Prelude.{MatchResult}
 use Rattle.pmp_encoding.specs.declared.perm.Perm.{Perm}
@@ -19,7 +19,7 @@ use Rattle.certificate_check.specs.declared.refusal.CheckRefusal.TheVariants.{Co
 use Rattle.certificate_check.specs.Refusals.{refusal_of}
 use Rattle.certificate_check.specs.Later.{AgreeFrom}
 
--- a sound bound of the 2 ^ k pages from `first` on that a certificate can spell and that has no
+-- a sound bound of the 2 ^ k pages from `first` on that a certificate can contain and that does not
 -- overflow
 pub record IsRightNode (view : View) (k first : ℕ) (tree : BoundTree) : Type 0 where
   pub fits : FitsNode k tree
@@ -30,35 +30,35 @@ pub record IsRightNode (view : View) (k first : ℕ) (tree : BoundTree) : Type 0
 abbrev pub AreNumbersOf : BoundTree → SixCosts → Type 0
 AreNumbersOf tree numbers = (p : Perm) → cost_of numbers p ≡ bound_of tree p
 
--- one more than each sum of the halves' numbers has four bytes
+-- each sum of the halves' numbers, plus one, fits in four bytes
 abbrev pub HaveSums : (Perm → ℕ) → (Perm → ℕ) → Type 0
 HaveSums lower upper = (p : Perm) → lower p + upper p + 1 < 2 ^ 32
 
--- the costs of a split block are allowed by the halves' numbers, whose sums have four bytes
+-- the halves' numbers allow the costs of a split block, and their sums plus one fit in four bytes
 pub record IsAllowed (costs lower upper : Perm → ℕ) : Type 0 where
   pub sums : HaveSums lower upper
   pub same : (p : Perm) → costs p ≤ lower p + upper p
   pub any : (p q : Perm) → costs p ≤ 1 + (lower q + upper q)
 
--- one more than some sum of the halves' numbers has no four bytes
+-- some sum of the halves' numbers, plus one, does not fit in four bytes
 abbrev pub IsTooLarge : (Perm → ℕ) → (Perm → ℕ) → Type 0
 IsTooLarge lower upper = (p : Perm) × (2 ^ 32 ≤ lower p + upper p + 1)
 
--- some cost is above the halves' sum for the same permission, or above one more than their sum for
--- some permission
+-- some cost is greater than the halves' sum for the same permission, or greater than one plus their
+-- sum for some permission
 abbrev pub IsTooHigh : (Perm → ℕ) → (Perm → ℕ) → (Perm → ℕ) → Type 0
 IsTooHigh costs lower upper = (p : Perm) × (q : Perm)
     × ((lower p + upper p < costs p) ⊎ (1 + (lower q + upper q) < costs p))
 
--- the fault of a refusal is in the costs of a split block: sums that are too large come before
+-- the costs of a split block contain the fault of a refusal: overflowing sums are reported before
 -- costs that are too high
 abbrev pub BranchFault : (Perm → ℕ) → (Perm → ℕ) → (Perm → ℕ) → CheckRefusal → Type 0
 BranchFault costs lower upper CostOverflow = IsTooLarge lower upper
 BranchFault costs lower upper CostTooHigh = HaveSums lower upper × IsTooHigh costs lower upper
 BranchFault costs lower upper _ = ⊥
 
--- the fault of a refusal is in the node at the front of the bytes, for the 2 ^ k pages from
--- `first` on
+-- the node at the front of the bytes, for the 2 ^ k pages from `first` on, contains the fault of a
+-- refusal
 pub data NodeFault (view : View) : ℕ → ℕ → List ℕ → CheckRefusal → Type 0 where
   in_tag : {k first : ℕ} {bytes : List ℕ} (fault : ReadFault) → TagFault bytes fault
       → NodeFault view k first bytes (refusal_of fault)
@@ -104,7 +104,7 @@ pub data NodeFault (view : View) : ℕ → ℕ → List ℕ → CheckRefusal →
       → IsTooHigh costs (bound_of lower) (bound_of upper)
       → NodeFault view k first bytes CostTooHigh
 
--- a right node stood at the front of the bytes, with these numbers, and was read
+-- a right node with these numbers was read from the front of the bytes
 pub record IsNodeRead (view : View) (k first : ℕ) (bytes rest : List ℕ) (numbers : SixCosts) :
     Type 0 where
   pub tree : BoundTree
@@ -112,8 +112,8 @@ pub record IsNodeRead (view : View) (k first : ℕ) (bytes rest : List ℕ) (num
   pub spelled : bytes ≡ node_bytes tree ++ rest
   pub numbers_of : AreNumbersOf tree numbers
 
--- what the reading of the node at the front of the bytes comes to, for each view that is the known
--- one from its first page on: it is right, or its fault is there
+-- the result of reading the node at the front of the bytes is right for each view that agrees with
+-- the known one from its first page on: the node is right, or contains that fault
 abbrev pub ReadsNode : View → ℕ → ℕ → Result SixCosts CheckRefusal → List ℕ → List ℕ → Type 0
 ReadsNode known k first answer left rest = (view : View) → AgreeFrom first known view
     → MatchResult answer (IsNodeRead view k first left rest) (NodeFault view k first left)

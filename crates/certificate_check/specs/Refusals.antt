@@ -1,4 +1,4 @@
--- The checker's refusals: which fault of the reader each is, their numbers and their names.
+-- The checker's refusals: those for faults of the reader, their numbers and their names.
 use Rattle.std.specs.Prelude.{ℕ, List, codes}
 use Rattle.certificate_format.specs.declared.fault.ReadFault.{ReadFault}
 use Rattle.certificate_format.specs.declared.fault.ReadFault.TheVariants as Read
@@ -15,7 +15,7 @@ use Rattle.certificate_check.specs.declared.refusal.CheckRefusal.TheVariants.{En
 use Rattle.certificate_check.specs.declared.refusal.CheckRefusal.TheVariants.{WrongMeaning}
 use Rattle.certificate_check.specs.declared.refusal.CheckRefusal.TheVariants.{Trailing, BadLimit}
 
--- the refusal for a fault of reading
+-- the refusal for a fault of the reader
 abbrev pub refusal_of : ReadFault → CheckRefusal
 refusal_of Read.BadMagic = BadMagic
 refusal_of Read.BadVersion = BadVersion

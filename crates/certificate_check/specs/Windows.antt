@@ -1,4 +1,4 @@
--- A source that is read through a window.
+-- A source read through a window.
 use Rattle.std.specs.Prelude.{◌≡◌, ◌≢◌, ℕ, ◌+◌, ◌-◌, ◌^◌, ◌<◌, ◌≤◌, min, List, [], ◌++◌, length}
 use Rattle.std.specs.Prelude.{Option, None, Some, Result, Ok, Err}
 use Rattle.std.specs.Io.KnownBytes.{Consumes, IsAtEnd}
@@ -14,12 +14,12 @@ use Rattle.certificate_check.specs.declared.refusal.CheckRefusal.{CheckRefusal}
 use Rattle.certificate_check.specs.declared.stop.Stop.{Stop}
 use Rattle.certificate_check.specs.declared.stop.Stop.TheVariants.{Refused, Unheld}
 
--- a count of 64 bits goes on, and stays at its greatest
+-- a saturating count in 64 bits
 abbrev pub counted : ℕ → ℕ → ℕ
 counted came more = min (came + more) (2 ^ 64 - 1)
 
--- a window and its source at a time: the bytes that the source has still to give, where they are
--- known, and how often it has failed
+-- the state of a window and its source: the bytes that the source has yet to deliver, if they are
+-- known, and the number of its failures
 pub record WindowState : Type 0 where
   pub window : Window
   pub remaining : Option (List ℕ)
@@ -29,8 +29,8 @@ abbrev pub place : {R : Type 0} → (R → Option (List ℕ)) → (R → ℕ) �
 place remaining failures window source =
     record { window = window; remaining = remaining source; failures = failures source }
 
--- these bytes are left to be read at a place, where in the end so much remains in the source and so
--- many bytes have come: those that the window holds, and those that come later
+-- the bytes left to be read in a state, given the final contents of the source and the final count
+-- of arrived bytes: those in the window, and those that arrive later
 pub record AreLeft (after : Option (List ℕ)) (total : ℕ) (at : WindowState) (left : List ℕ)
     : Type 0 where
   pub later : List ℕ
@@ -39,7 +39,7 @@ pub record AreLeft (after : Option (List ℕ)) (total : ℕ) (at : WindowState) 
   pub counted : counted at.window.came (length later) ≡ total
   pub closed : at.window.inflow ≢ Open → later ≡ []
 
--- why no more bytes come is so, where the source had failed so often before
+-- the reason why no more bytes arrive is right, given the earlier number of failures
 abbrev pub IsSoundAs : Inflow → ℕ → WindowState → Type 0
 IsSoundAs Open failures at = (at.failures ≡ failures) × (at.window.came ≤ at.window.most)
 IsSoundAs AtEnd failures at = (at.failures ≡ failures) × (at.window.came ≤ at.window.most)
@@ -51,7 +51,7 @@ IsSoundAs Failed failures at = GrowsByOne failures at.failures
 abbrev pub IsSound : ℕ → WindowState → Type 0
 IsSound failures at = IsSoundAs at.window.inflow failures at
 
--- from one place to the next: whatever comes later, what was left and what is left then are in the
+-- from one state to the next, whatever arrives later, the bytes left before and after are in the
 -- relation
 pub record Reads (old new : WindowState) (P : List ℕ → List ℕ → Type 0) : Type 0 where
   pub most : new.window.most ≡ old.window.most
@@ -59,36 +59,35 @@ pub record Reads (old new : WindowState) (P : List ℕ → List ℕ → Type 0) 
   pub left : (after : Option (List ℕ)) (total : ℕ) (rest : List ℕ) → AreLeft after total new rest
       → (left : List ℕ) × AreLeft after total old left × P left rest
 
--- what is left stays
+-- the bytes left are unchanged
 abbrev pub Stays : List ℕ → List ℕ → Type 0
 Stays left rest = left ≡ rest
 
--- that many bytes are there, or no more come
+-- the window has that many bytes, or no more arrive
 abbrev pub HasEnough : ℕ → WindowState → Type 0
 HasEnough need at = (at.window.inflow ≡ Open) → need ≤ length at.window.buffer
 
--- a stop for what is at fault in the bytes is one where it is, and one for entries that are not
--- held says nothing of them
+-- a stop with a refusal requires its fault in the bytes; a stop because the entries are not stored
+-- has no condition
 abbrev pub StandsIn : (CheckRefusal → Type 0) → Stop → Type 0
 StandsIn fault (Refused refusal) = fault refusal
 StandsIn fault Unheld = Unit {0}
 
--- why not all of the bytes came
+-- the reason why not all bytes arrived
 abbrev pub fault_of : Inflow → Option SourceFault
 fault_of Open = None
 fault_of AtEnd = None
 fault_of TooLarge = Some faults.TooLarge
 fault_of Failed = Some faults.Read
 
--- why the parts are not read on, where the entries are not held: what became of the source goes
--- before
+-- the reason to stop reading if the entries are not stored; a fault of the source takes precedence
 abbrev pub stopped_by : Inflow → SourceFault
 stopped_by Open = faults.Memory
 stopped_by AtEnd = faults.Memory
 stopped_by TooLarge = faults.TooLarge
 stopped_by Failed = faults.Read
 
--- what was found of the bytes: nothing where the entries are not held
+-- the verdict on the bytes, unless the entries are not stored
 abbrev pub found_of : Result Header Stop → Option (Result Header CheckRefusal)
 found_of (Ok header) = Some (Ok header)
 found_of (Err (Refused refusal)) = Some (Err refusal)

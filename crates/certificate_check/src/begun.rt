@@ -1,4 +1,4 @@
-//! Entries that have begun at a page and not yet ended, one for each size.
+//! The entries that have begun at or before a page and have not ended, one for each size.
 
 use crate::entries::{SIZES, Span};
 use crate::piece::Piece;
@@ -12,7 +12,7 @@ pub(crate) struct Begun {
     pub(crate) span: Span,
 }
 
-/// No entry of a size has begun.
+/// An empty slot: no entry of its size has begun.
 pub(crate) const NONE: Begun = Begun {
     number: 0,
     span: Span {
@@ -29,8 +29,8 @@ ghost use Rattle.certificate_check.specs.declared.begun.Begun.{Begun};
 ghost use Rattle.certificate_check.specs.Spans.{Decides, AreBlocks};
 ghost use Rattle.certificate_check.specs.InOrder.{key_of, AreBegun, HaveEndedBut, NoneBegins};
 
-/// An entry begins at the page. Of entries with the same pages only the first in the list is kept: it decides where
-/// they do, and two of one size have the same pages or none in common.
+/// Begins an entry at the page. Of several entries with the same pages, only the first in the list is kept, because it
+/// decides there. Two entries of one size have either the same pages or none in common.
 pub(crate) fn begin(
     slots: &mut [Begun; SIZES],
     sizes: &mut Sizes,
@@ -57,8 +57,8 @@ pub(crate) fn begin(
     }
 }
 
-/// The first in the list of the entries that have begun and not ended before the page. The sizes of those that have
-/// ended leave the set.
+/// Returns the first entry in the list that has begun and ends after the page. Removes the sizes of ended entries from
+/// the set.
 fn first_open(slots: &[Begun; SIZES], sizes: &mut Sizes, page: u64) -> Option<Begun>
     requires few { sizes.old.bits < 2 ^ 45 }
     requires ended { HaveEndedBut sizes.old page slots.now }
@@ -91,7 +91,7 @@ fn first_open(slots: &[Begun; SIZES], sizes: &mut Sizes, page: u64) -> Option<Be
     open
 }
 
-/// What the entries that have begun give from the page on, where no other begins before `to`.
+/// Returns the piece from the page on that the begun entries give, if no other entry begins before `to`.
 pub(crate) fn piece_of_begun(slots: &[Begun; SIZES], sizes: &mut Sizes, page: u64, to: u64) -> Piece
     requires order { page < to }
     requires few { sizes.old.bits < 2 ^ 45 }

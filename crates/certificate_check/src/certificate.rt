@@ -1,4 +1,4 @@
-//! The check of a certificate: its parts in the order of reading, and the first that is not right.
+//! Checks the parts of a certificate in the order of reading, and reports the first fault.
 
 ghost use Rattle.std.specs.Prelude.{◌≡◌, ◌≤◌, ◌↔◌, ℕ, List, IfOk, IfErr, MatchResult, length};
 ghost use Rattle.pmp_encoding.specs.declared.region.Entry.{Entry};
@@ -19,7 +19,7 @@ use certificate_format::{Header, Reader};
 use permission_map::PermissionMap;
 use text_lines::Source;
 
-/// Reads the root after the entries, and answers the first of what is left to look at that is not right.
+/// Reads the root after the entries, and reports the first fault in the remaining checks.
 pub(crate) fn rest_is_right<R: Source>(
     map: &PermissionMap,
     header: &Header,
@@ -48,7 +48,7 @@ pub(crate) fn rest_is_right<R: Source>(
     Ok(())
 }
 
-/// Reads the parts in their order, and answers the first that is not right.
+/// Reads the parts in order, and reports the first fault.
 fn read_whole(map: &PermissionMap, bytes: &[u8]) -> Result<u32, CheckRefusal>
     ensures right { IfOk result (IsRight (view_of_runs map.now) bytes.now) }
     ensures fault { IfErr result (RefusalStands (view_of_runs map.now) bytes.now) }
@@ -62,11 +62,11 @@ fn read_whole(map: &PermissionMap, bytes: &[u8]) -> Result<u32, CheckRefusal>
     Ok(header.count)
 }
 
-/// Checks that the bytes are a right certificate of fewest entries for the map, and answers how many entries it has.
+/// Checks that the bytes are a right certificate of fewest entries for the map, and returns the number of its entries.
 ///
-/// A yes says that the bytes hold that many entries that mean the map (RISC-V Privileged Architecture, Physical Memory
-/// Protection), and that no list of fewer entries does. The refusal is the first in the order of reading: header,
-/// entries, nodes in preorder, and then the number of entries, their meaning and bytes after the root.
+/// `Ok` means that the bytes contain that many entries that mean the map (RISC-V Privileged Architecture, Physical
+/// Memory Protection), and that no shorter list does. The refusal is the first in the order of reading: header,
+/// entries, nodes in preorder, and then the number of entries, their meaning, and bytes after the root.
 pub fn check(map: &PermissionMap, bytes: &[u8]) -> Result<u32, CheckRefusal>
     ensures fewest { IfOk result (HoldsFewest (view_of_runs map.now) bytes.now) }
     ensures least { IfOk result (λ n.

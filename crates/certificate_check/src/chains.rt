@@ -1,18 +1,18 @@
-//! Chains of entries: those of one size, by rising address.
+//! Chains of entries: those of one size, by ascending address.
 
 use crate::entries::{Entries, SIZES, Span};
 use crate::piece::Piece;
 use arrayvec::ArrayVec;
 use pmp_encoding::{Perm, SPACE_PAGES};
 
-/// A place in a chain: the span that was read last, and the number of the one after it.
+/// A position in a chain: the last span that was read, and the number of the next one.
 #[derive(Clone, Copy)]
 pub(crate) struct ChainCursor {
     pub(crate) next: usize,
     pub(crate) span: Span,
 }
 
-/// Before each chain: no span was read.
+/// The position before every chain: no span has been read.
 pub(crate) const BEFORE: ChainCursor = ChainCursor {
     next: 0,
     span: Span {
@@ -29,8 +29,8 @@ ghost use Rattle.certificate_check.specs.Spans.{ReadsAs, Decides, RiseTo, AreCha
 ghost use Rattle.certificate_check.specs.declared.chains.ChainCursor.{ChainCursor};
 ghost use Rattle.certificate_check.specs.Places.{IsPlace, start_of, ArePlaces};
 
-/// The same span, field by field. As a whole it would be copied with the bytes that no field has, in pieces that lie across
-/// those just written, and the processor would wait for them.
+/// Returns a copy of the span, made field by field. A copy of the whole struct includes its padding, in pieces that
+/// overlap recent stores, which stalls the processor.
 #[inline(always)]
 fn taken_apart(span: Span) -> Span
     ensures { result ≡ span }
@@ -43,7 +43,7 @@ fn taken_apart(span: Span) -> Span
     }
 }
 
-/// The number of the entry with which a chain begins.
+/// Returns the number of the first entry of a chain.
 fn start_of(ends: &[usize], i: usize) -> usize
     requires { i < length ends.now }
     ensures { result ≡ start_of ends.now i }
@@ -54,7 +54,7 @@ fn start_of(ends: &[usize], i: usize) -> usize
     ends[i - 1]
 }
 
-/// Goes on in the chain of the entries from `from` to before `to`, to the first span that ends after the page.
+/// Advances in the chain of the entries `from..to` to the first span that ends after the page.
 fn next_in_chain(
     entries: &Entries,
     place: ChainCursor,
@@ -80,8 +80,8 @@ fn next_in_chain(
     }
 }
 
-/// Goes on in one of the chains where the span of its place has ended. (A place is not copied where it stays: that
-/// takes most of the time of a sweep.)
+/// Advances in a chain if the span of its position has ended. (An unchanged position is not copied, because that takes
+/// most of the time of a sweep.)
 fn go_on(
     entries: &Entries,
     places: &mut [ChainCursor; SIZES],
@@ -104,7 +104,7 @@ fn go_on(
     }
 }
 
-/// What the entries give from the page on, where they form chains that end at `ends`. The places go on.
+/// Returns the piece from the page on that entries in chains with these ends give. Advances the positions.
 pub(crate) fn piece_of_chains(
     entries: &Entries,
     ends: &[usize],
@@ -149,7 +149,8 @@ pub(crate) fn piece_of_chains(
     }
 }
 
-/// Where the entries' chains end, if there are no more than sizes, as in a planner's list by rising size and address.
+/// Returns the ends of the entries' chains, if there are at most as many chains as sizes. That is true of a planner's
+/// list, which is sorted by size and address.
 pub(crate) fn chains_of(entries: &Entries) -> Option<ArrayVec<usize, SIZES>>
     ensures few { IfSome result (λ ends. length ends.items ≤ 45) }
     ensures rise { IfSome result (λ ends. RiseTo 0 ends.items (count_in entries.now)) }

@@ -1,4 +1,4 @@
-//! The entries of a certificate, read from their bytes where they are asked for.
+//! The entries of a certificate, decoded from their bytes on demand.
 
 ghost use Rattle.std.specs.Prelude.{◌≡◌, ℕ, ◌+◌, ◌*◌, ◌/◌, ◌<◌, ◌≤◌, ◌^◌};
 ghost use Rattle.pmp_encoding.specs.declared.region.Entry.{Entry};
@@ -7,10 +7,10 @@ use byteorder::{ByteOrder, LittleEndian};
 use pmp_encoding::{Perm, SPACE_PAGES};
 use std::marker::Model;
 
-/// How many sizes a region of at least a page can have.
+/// The number of sizes of a region of at least a page.
 pub(crate) const SIZES: usize = 45;
 
-/// The 2^size pages from `first` to before `end`, and a permission on them.
+/// The 2^size pages from `first` up to but excluding `end`, with a permission.
 #[derive(Clone, Copy)]
 pub(crate) struct Span {
     pub(crate) first: u64,
@@ -19,14 +19,14 @@ pub(crate) struct Span {
     pub(crate) perm: Perm,
 }
 
-/// The pages of an entry, from the first to before the end.
+/// The pages of an entry, from `first` up to but excluding `end`.
 #[derive(Clone, Copy)]
 pub(crate) struct Bounds {
     pub(crate) first: u64,
     pub(crate) end: u64,
 }
 
-/// The entries of a certificate, nine bytes each: a configuration byte and an address. Each is of at least a page.
+/// The entries of a certificate, nine bytes each: a configuration byte and an address. Each has at least a page.
 #[derive(Drop)]
 pub(crate) struct Entries<'a> {
     pub(crate) bytes: &'a [u8],
@@ -46,8 +46,8 @@ impl<'a> Model for Entries<'a> {
 ghost use Rattle.pmp_encoding.specs.Encoding.{MeansEntry};
 ghost use Rattle.certificate_check.specs.Spans.{AreBoundsOf, IsSpanAt, ReadsAs, count_in};
 
-/// The pages of an entry of at least a page, by its address: its trailing ones say how large the region is, and what is above
-/// them where it begins.
+/// Returns the pages of an entry of at least a page, given its address register: the trailing ones encode the size of
+/// the region, and the bits above them its start.
 #[inline(always)]
 fn bounds_of(address: u64) -> Bounds
     ensures { (cfg : ℕ) (e : Entry) → MeansEntry cfg address e → 12 ≤ e.region.log2
@@ -62,14 +62,14 @@ fn bounds_of(address: u64) -> Bounds
 }
 
 impl<'a> Entries<'a> {
-    /// How many there are.
+    /// Returns the number of entries.
     pub(crate) fn len(&self) -> usize
         ensures { result ≡ count_in self.now }
     {
         self.bytes.len() / 9
     }
 
-    /// The pages of one of them.
+    /// Returns the pages of an entry.
     #[inline(always)]
     pub(crate) fn bounds(&self, i: usize) -> Bounds
         requires { i < count_in self.now }
@@ -83,7 +83,7 @@ impl<'a> Entries<'a> {
         bounds_of(LittleEndian::read_u64(&bytes[at + 1..]))
     }
 
-    /// The pages of one of them, with their permission.
+    /// Returns the pages of an entry, with its permission.
     pub(crate) fn span(&self, i: usize) -> Span
         requires { i < count_in self.now }
         ensures some { result.first < result.end }

@@ -1,4 +1,4 @@
-//! The reading of the entries of a certificate.
+//! Reads the entries of a certificate.
 
 ghost use Rattle.std.specs.Prelude.{◌≡◌, ℕ, ◌<◌, ◌≤◌, ◌++◌, List, length, IfOk, IfErr, OnOk, IsOk};
 ghost use Rattle.pmp_encoding.specs.declared.region.Entry.{Entry};
@@ -47,7 +47,7 @@ pub(crate) fn entries(reader: &mut Reader, count: u32) -> Result<(), CheckRefusa
     Ok(())
 }
 
-/// Reads that many entries of at least a page, and answers their bytes.
+/// Reads that many entries of at least a page, and returns their bytes.
 pub(crate) fn listed<'a>(reader: &mut Reader<'a>, count: u32) -> Result<Entries<'a>, CheckRefusal>
     ensures read { IfOk result (λ list.
         (es : List Entry) × IsListed reader.old reader.new es × (length es ≡ count)

@@ -1,20 +1,20 @@
 //! Checks a certificate of fewest entries against a map. It trusts neither who made the certificate nor how.
 //!
-//! A certificate holds a list of PMP entries and a table of lower bounds: a tree of blocks, each of one permission or
-//! split into halves, with six numbers for each split block. Where the table is a sound bound of the map, no list that
-//! means the map is shorter than its root says.
+//! A certificate contains a list of PMP entries and a table of lower bounds: a tree of blocks, each of one permission
+//! or split into halves, with six numbers for each split block. If the table is a sound bound of the map, no list that
+//! means the map has fewer entries than the root's number.
 //!
-//! For the layer above: [`check`] answers `Ok(n)` exactly for right certificates, of n entries. The bytes then hold n
-//! entries that mean the map, and no list of fewer entries, of any regions and in any order, means it. Each
-//! [`CheckRefusal`] comes exactly where the fault of that name is in the bytes, after parts that are right. It takes
-//! no memory. [`check_source`] says the same of the bytes that a source gives. It holds the entries, nine bytes each, and
-//! reads the nodes through a window of 16 KiB. The crate depends on `certificate_format`, and on no crate that knows of
-//! trees or plans.
+//! For the layer above: [`check`] returns `Ok(n)` iff the bytes are a right certificate with n entries. The bytes then
+//! contain n entries that mean the map, and no list of fewer entries, of any regions and in any order, means it. Each
+//! [`CheckRefusal`] is returned iff the fault of that name is in the bytes, after parts that are right. It does not
+//! allocate. [`check_source`] gives the same verdict on the bytes of a source. It stores the entries, nine bytes each,
+//! and reads the nodes through a window of 16 KiB. The crate depends on `certificate_format`, but on no crate of trees
+//! or plans.
 //!
-//! The entries may come in any order. Where they form at most 45 chains, as a planner's do by rising size and
-//! then by rising address, a place in each chain goes on with the pages, so that each entry is passed once. Where
-//! there are more chains, the entries begin by rising first page: those that begin next are gathered by a look at all
-//! of them. One look gathers up to 131,072; of more each gathers at least 65,536, or the rest.
+//! The entries may be in any order. If they form at most 45 chains, as a planner's list sorted by size and address
+//! does, the sweep keeps a position in each chain, so that it reads each entry once. Otherwise it visits the entries by
+//! ascending first page: a scan of all entries gathers those that begin next. One scan is enough for up to 131,072
+//! entries; of more, each scan gathers at least 65,536, or the rest.
 //!
 //! ```rust
 //! let mut map = PermissionMap::new(alloc);

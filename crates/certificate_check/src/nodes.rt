@@ -1,4 +1,4 @@
-//! The reading of the tree of a certificate: each leaf against the map, each branch against its halves.
+//! Reads the tree of a certificate, and checks each leaf against the map and each branch against its halves.
 
 ghost use Rattle.std.specs.Prelude.{◌≡◌, ℕ, ◌+◌, ◌-◌, ◌<◌, ◌≤◌, ◌^◌, ◌∷◌, IfOk, OnOk, IsOk, IfErr, MatchResult};
 ghost use Rattle.pmp_encoding.specs.declared.perm.Perm.{Perm};
@@ -19,7 +19,7 @@ use permission_map::PermissionMap;
 use pmp_encoding::pages_of;
 use text_lines::Source;
 
-/// Reads what follows the tag of a leaf of the 2^log2 pages from `first` on.
+/// Reads the part after the tag of a leaf of the 2^log2 pages from `first` on.
 #[inline(always)]
 fn leaf<R: Source>(
     window: &mut Window,
@@ -46,7 +46,7 @@ fn leaf<R: Source>(
     Ok(costs_of_leaf(perm))
 }
 
-/// The numbers of a split block, where they are what the halves allow.
+/// Returns the numbers of a split block if its halves allow them.
 #[inline(always)]
 fn branch(costs: &SixCosts, lower: &SixCosts, upper: &SixCosts) -> Result<SixCosts, CheckRefusal>
     ensures numbers { IfOk result (λ numbers.
@@ -67,7 +67,7 @@ fn branch(costs: &SixCosts, lower: &SixCosts, upper: &SixCosts) -> Result<SixCos
     Ok(*costs)
 }
 
-/// Reads what follows the tag of a split block of 2^log2 pages from `first` on, and answers its numbers.
+/// Reads the part after the tag of a split block of 2^log2 pages from `first` on, and returns its numbers.
 #[cycle(nodes)]
 fn split<R: Source>(
     window: &mut Window,
@@ -95,8 +95,8 @@ fn split<R: Source>(
     branch(&costs, &lower, &upper)
 }
 
-/// Reads the node of the block of 2^log2 pages from `first` on, and answers its numbers. After it the runs go on from
-/// the block's end. (A leaf, as most halves are, is read where the split block is, without a call.)
+/// Reads the node of the block of 2^log2 pages from `first` on, and returns its numbers. The runs then continue from
+/// the block's end. (A leaf, which most halves are, is read in the caller without a call.)
 #[inline(always)]
 #[cycle(nodes)]
 fn node<R: Source>(
@@ -120,8 +120,8 @@ fn node<R: Source>(
     }
 }
 
-/// Reads the root's node, and answers its numbers: how many entries the map needs at least. With the most runs that a
-/// map can have those are fewer than 2^19.
+/// Reads the root's node, and returns its numbers: lower bounds on the number of entries of the map. A map with the
+/// maximum number of runs has numbers below 2^19.
 pub(crate) fn root<R: Source>(
     window: &mut Window,
     source: &mut R,

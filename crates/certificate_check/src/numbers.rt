@@ -8,7 +8,7 @@ ghost use Rattle.certificate_format.specs.Costs.{cost_of};
 use certificate_format::SixCosts;
 use pmp_encoding::Perm;
 
-/// The numbers of a block of each permission, in their order: 0 for that one, and 1 for each other.
+/// The numbers of a uniform block, for each permission in the fixed order: 0 for its own, and 1 for every other.
 static LEAVES: [SixCosts; 6] = [
     SixCosts {
         no_access: 0,
@@ -60,7 +60,7 @@ static LEAVES: [SixCosts; 6] = [
     },
 ];
 
-/// The numbers of a block of one permission.
+/// Returns the numbers of a uniform block.
 #[inline(always)]
 pub(crate) fn costs_of_leaf(perm: Perm) -> SixCosts
     ensures { (p : Perm) → cost_of result p ≡ bound_of (Leaf perm) p }
@@ -68,7 +68,7 @@ pub(crate) fn costs_of_leaf(perm: Perm) -> SixCosts
     LEAVES[perm.index()]
 }
 
-/// The sum of two numbers, where one more still has four bytes.
+/// Returns the sum of two numbers, if that sum plus one fits in four bytes.
 fn sum(lower: u32, upper: u32) -> Option<u32>
     ensures { SomeIff result (lower + upper + 1 < 2 ^ 32) (lower + upper) }
 {
@@ -79,7 +79,7 @@ fn sum(lower: u32, upper: u32) -> Option<u32>
     Some(sum as u32)
 }
 
-/// The sums of the costs of two halves, unless one more than some sum has no four bytes.
+/// Returns the sums of the costs of two halves, if each sum plus one fits in four bytes.
 pub(crate) fn sums_of(lower: &SixCosts, upper: &SixCosts) -> Option<SixCosts>
     ensures sums { IfSome result (λ sums.
         (p : Perm) → cost_of sums p ≡ cost_of lower.now p + cost_of upper.now p) }
@@ -103,7 +103,7 @@ pub(crate) fn sums_of(lower: &SixCosts, upper: &SixCosts) -> Option<SixCosts>
     })
 }
 
-/// The least of them.
+/// Returns the least of the six numbers.
 fn least(costs: &SixCosts) -> u32
     ensures low { (p : Perm) → result ≤ cost_of costs.now p }
     ensures one { (p : Perm) × (result ≡ cost_of costs.now p) }
@@ -115,7 +115,7 @@ fn least(costs: &SixCosts) -> u32
     some.min(extremes)
 }
 
-/// A permission whose number is above the other's.
+/// Returns a permission whose number is greater than the other's, if there is one.
 fn above(costs: &SixCosts, other: &SixCosts) -> Option<Perm>
     ensures some { IfSome result (λ p. cost_of other.now p < cost_of costs.now p) }
     ensures none { IfNone result ((p : Perm) → cost_of costs.now p ≤ cost_of other.now p) }
@@ -141,7 +141,8 @@ fn above(costs: &SixCosts, other: &SixCosts) -> Option<Perm>
     None
 }
 
-/// Whether some number is above the same sum of the halves' numbers, or above one more than any sum.
+/// Returns whether some number is greater than the sum of the halves' numbers for the same permission, or greater than
+/// one plus the least sum.
 #[inline(always)]
 pub(crate) fn are_too_high(costs: &SixCosts, sums: &SixCosts) -> bool
     requires { (p : Perm) → cost_of sums.now p + 1 < 2 ^ 32 }
@@ -159,7 +160,7 @@ pub(crate) fn are_too_high(costs: &SixCosts, sums: &SixCosts) -> bool
     above(costs, &the_same(least(sums) + 1)).is_some()
 }
 
-/// The same number for each permission.
+/// Returns the same number for each permission.
 fn the_same(number: u32) -> SixCosts
     ensures { (p : Perm) → cost_of result p ≡ number }
 {

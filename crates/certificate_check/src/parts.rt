@@ -1,4 +1,4 @@
-//! The parts of a certificate, each at the front of the bytes that are there, and read through a window.
+//! Reads the parts of a certificate from the front of a window.
 
 ghost use Rattle.std.specs.Prelude.{◌≡◌, ℕ, ◌∷◌, ◌++◌, ◌+◌, ◌<◌, ◌≤◌, ◌^◌, List, MatchResult, length, take};
 ghost use Rattle.pmp_encoding.specs.declared.perm.Perm.{Perm};
@@ -30,7 +30,7 @@ fn header_in(bytes: &[u8]) -> Result<(Header, usize), ReadFault>
     }
 }
 
-/// The header. The longest has ten bytes.
+/// Reads the header, which has at most ten bytes.
 pub(crate) fn header<R: Source>(window: &mut Window, source: &mut R) -> Result<Header, ReadFault>
     ensures { Reads (place R.remaining R.failures window.old source.old)
         (place R.remaining R.failures window.new source.new)
@@ -56,7 +56,7 @@ fn tag_in(bytes: &[u8]) -> Result<Tag, ReadFault>
     reader.tag()
 }
 
-/// The kind of the node that begins here.
+/// Reads the kind of the next node.
 #[inline(always)]
 pub(crate) fn tag<R: Source>(window: &mut Window, source: &mut R) -> Result<Tag, ReadFault>
     ensures { Reads (place R.remaining R.failures window.old source.old)
@@ -82,7 +82,7 @@ fn perm_in(bytes: &[u8]) -> Result<Perm, ReadFault>
     reader.perm()
 }
 
-/// The permission of a leaf.
+/// Reads the permission of a leaf.
 #[inline(always)]
 pub(crate) fn perm<R: Source>(window: &mut Window, source: &mut R) -> Result<Perm, ReadFault>
     ensures { Reads (place R.remaining R.failures window.old source.old)
@@ -110,7 +110,7 @@ fn costs_in(bytes: &[u8]) -> Result<SixCosts, ReadFault>
     Ok(costs.six())
 }
 
-/// The six costs of a branch.
+/// Reads the six costs of a branch.
 #[inline(always)]
 pub(crate) fn costs<R: Source>(window: &mut Window, source: &mut R) -> Result<SixCosts, ReadFault>
     ensures { Reads (place R.remaining R.failures window.old source.old)
@@ -128,7 +128,7 @@ pub(crate) fn costs<R: Source>(window: &mut Window, source: &mut R) -> Result<Si
     }
 }
 
-/// The first nine of some bytes.
+/// Returns the first nine bytes.
 fn nine_of(bytes: &[u8]) -> [u8; 9]
     requires { 9 ≤ length bytes.now }
     ensures { result ≡ take 9 bytes.now }
@@ -150,7 +150,7 @@ fn entry_in(bytes: &[u8]) -> Result<[u8; 9], CheckRefusal>
     }
 }
 
-/// The nine bytes of an entry of at least a page.
+/// Reads the nine bytes of an entry of at least a page.
 pub(crate) fn entry_bytes<R: Source>(
     window: &mut Window,
     source: &mut R,

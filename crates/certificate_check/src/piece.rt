@@ -1,8 +1,8 @@
-//! Pages one after another with one permission, as they are gone over.
+//! Consecutive pages with one permission, as a sweep visits them.
 
 use pmp_encoding::Perm;
 
-/// A permission that holds from some page to before `end`.
+/// The permission of the pages from the current one up to but excluding `end`.
 #[derive(Clone, Copy)]
 pub(crate) struct Piece {
     pub(crate) end: u64,

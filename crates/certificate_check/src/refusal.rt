@@ -1,8 +1,8 @@
-//! Why a certificate is refused.
+//! Reasons why a certificate is refused.
 
 use certificate_format::ReadFault;
 
-/// Why the bytes are no right certificate for the map. The numbers are those that the program prints.
+/// The reason why the bytes are not a right certificate for the map. The program prints these numbers.
 #[derive(Clone, Copy, PartialEq, Eq, Debug)]
 pub enum CheckRefusal {
     /// The first four bytes are not `PMPC`.
@@ -13,23 +13,23 @@ pub enum CheckRefusal {
     Truncated = 3,
     /// A node begins with neither a leaf's tag nor a branch's.
     BadTag = 4,
-    /// A leaf has a byte that is no permission.
+    /// A leaf has a byte that is not a permission.
     BadPerm = 5,
-    /// The nine bytes of an entry mean none.
+    /// The nine bytes of an entry do not mean an entry.
     BadEntry = 6,
-    /// The region of an entry is less than a page.
+    /// The region of an entry is smaller than a page.
     SubPageEntry = 7,
     /// A page is split.
     TooDeep = 8,
-    /// A leaf's block has not one permission throughout.
+    /// The map has several permissions in a leaf's block.
     LeafNotUniform = 9,
-    /// A leaf's block has another permission throughout.
+    /// The map has another permission in a leaf's block.
     WrongLeaf = 10,
-    /// A cost of a split block is above what its halves' costs allow.
+    /// A cost of a split block is greater than its halves' costs allow.
     CostTooHigh = 11,
-    /// The costs of a split block's halves have a sum that is too large.
+    /// The sum of the costs of a split block's halves overflows.
     CostOverflow = 12,
-    /// There are more entries than the root's cost says are needed.
+    /// There are more entries than the root's cost for no access.
     EntriesTooMany = 13,
     /// The entries do not mean the map.
     WrongMeaning = 14,
@@ -43,14 +43,14 @@ impl CheckRefusal {
     ghost use Rattle.std.specs.Prelude.{◌≡◌};
     ghost use Rattle.certificate_check.specs.Refusals.{refusal_number, refusal_name};
 
-    /// Its number, from 1 to 16.
+    /// Returns the number, from 1 to 16.
     pub fn number(self) -> u8
         ensures { result ≡ refusal_number self }
     {
         self as u8
     }
 
-    /// Its name, as the program prints it: at most fourteen ASCII letters.
+    /// Returns the name as the program prints it: at most fourteen ASCII letters.
     pub fn name(self) -> &'static str
         ensures { result.now ≡ refusal_name self }
     {

@@ -1,4 +1,4 @@
-//! The runs of a map, as its pages are gone over in their order.
+//! The runs of a map, visited in page order.
 
 ghost use Rattle.std.specs.Prelude.{◌≡◌, ◌≢◌, ℕ, ◌+◌, ◌<◌, ◌≤◌, ◌^◌, IfSome, IfNone, length};
 ghost use Rattle.permission_map.specs.Runs.{view_of_runs};
@@ -9,7 +9,7 @@ use permission_map::{PermissionMap, Run};
 use pmp_encoding::{Perm, SPACE_PAGES};
 use std::marker::Model;
 
-/// The runs without those that end at or before the page.
+/// Skips the runs that end at or before the page.
 pub(crate) fn runs_from<'a>(runs: &'a [Run], page: u64) -> &'a [Run]
     requires { AreLaterRuns runs.now }
     ensures later { AreLaterRuns result.now }
@@ -27,7 +27,7 @@ pub(crate) fn runs_from<'a>(runs: &'a [Run], page: u64) -> &'a [Run]
     rest
 }
 
-/// What the runs give from the page on.
+/// Returns the piece of the runs from the page on.
 pub(crate) fn piece_of_runs(runs: &[Run], page: u64) -> Piece
     requires page { page < 2 ^ 44 }
     requires later { AreLaterRuns runs.now }
@@ -59,7 +59,7 @@ pub(crate) fn piece_of_runs(runs: &[Run], page: u64) -> Piece
     }
 }
 
-/// The runs of a map that are still to come, where its pages are gone over in their order.
+/// The remaining runs of a map, whose pages are visited in order.
 #[derive(Drop)]
 pub(crate) struct RunsAhead<'a> {
     runs: &'a [Run],
@@ -78,7 +78,7 @@ impl<'a> Model for RunsAhead<'a> {
 }
 
 impl<'a> RunsAhead<'a> {
-    /// All of the map's runs.
+    /// Returns all of the map's runs.
     pub(crate) fn of(map: &'a PermissionMap) -> RunsAhead<'a>
         ensures value { result ≡ map.now }
         ensures most { length result ≤ 4096 }
@@ -86,8 +86,8 @@ impl<'a> RunsAhead<'a> {
         RunsAhead { runs: map.ranges() }
     }
 
-    /// The permission that all pages from `first` to before `end` have, or nothing where they have more than one. Runs
-    /// that end at or before `first` are dropped.
+    /// Returns the permission of all pages from `first` up to but excluding `end`, or `None` if they have different
+    /// ones. Drops the runs that end at or before `first`.
     #[inline(always)]
     pub(crate) fn uniform(&mut self, first: u64, end: u64) -> Option<Perm>
         requires some { first < end }

@@ -3,21 +3,21 @@
 ghost use Rattle.std.specs.Prelude.{◌≡◌, ◌≢◌, ℕ, ◌<◌, ◌^◌, IfSome, IfNone};
 ghost use Rattle.std.specs.Int.{bit_at};
 
-/// A set of sizes, as the bits of a number.
+/// A set of sizes as a bit mask.
 #[derive(Clone, Copy)]
 pub(crate) struct Sizes {
     pub(crate) bits: u64,
 }
 
 impl Sizes {
-    /// No size.
+    /// Returns the empty set.
     pub(crate) fn new() -> Sizes
         ensures { result.bits ≡ 0 }
     {
         Sizes { bits: 0 }
     }
 
-    /// Puts a size into the set.
+    /// Adds a size to the set.
     pub(crate) fn insert(&mut self, size: usize)
         requires small { size < 45 }
         ensures few { self.old.bits < 2 ^ 45 → self.new.bits < 2 ^ 45 }
@@ -28,7 +28,7 @@ impl Sizes {
         self.bits |= 1 << size;
     }
 
-    /// Takes a size out of the set.
+    /// Removes a size from the set.
     pub(crate) fn remove(&mut self, size: usize)
         requires small { size < 45 }
         requires has { bit_at self.old.bits size ≡ 1 }
@@ -40,7 +40,7 @@ impl Sizes {
         self.bits &= !(1 << size);
     }
 
-    /// The least size of the set.
+    /// Returns the least size of the set.
     pub(crate) fn least(self) -> Option<usize>
         requires few { self.bits < 2 ^ 45 }
         ensures small { IfSome result (λ size. size < 45) }

@@ -1,4 +1,4 @@
-//! The check of a certificate that a source gives: its entries are held, and its nodes are read through a window.
+//! Checks a certificate from a source: the entries are stored, and the nodes are read through a window.
 
 ghost use Rattle.std.specs.Prelude.{◌≡◌, ◌≢◌, ℕ, ◌<◌, ◌≤◌, ◌^◌, List, IfOk, Some, MatchResult, Ok, Err, length};
 ghost use Rattle.std.specs.Io.KnownBytes.{Consumes, IsAtEnd};
@@ -23,10 +23,10 @@ use permission_map::PermissionMap;
 use std::alloc::Global;
 use text_lines::{Source, SourceFault};
 
-/// How many bytes an entry has.
+/// Size of an entry in bytes.
 const ENTRY_BYTES: u64 = 9;
 
-/// Reads that many entries of at least a page, and answers their bytes.
+/// Reads that many entries of at least a page, and returns their bytes.
 fn entries_from<R: Source>(
     alloc: Global,
     window: &mut Window,
@@ -50,7 +50,8 @@ fn entries_from<R: Source>(
     Ok(list)
 }
 
-/// Reads the entries of a certificate that states more than may come, and holds none: they end with the one that is at fault.
+/// Reads the entries of a certificate with more of them than the limit allows, without storing them, up to the first
+/// fault.
 fn stop_among<R: Source>(window: &mut Window, source: &mut R, count: u32) -> Stop
     ensures refused { Reads (place R.remaining R.failures window.old source.old)
         (place R.remaining R.failures window.new source.new)
@@ -68,7 +69,7 @@ fn stop_among<R: Source>(window: &mut Window, source: &mut R, count: u32) -> Sto
     Stop::Unheld
 }
 
-/// Reads the parts in their order, and answers the header of a right certificate.
+/// Reads the parts in order, and returns the header of a right certificate.
 fn read_parts<R: Source>(
     alloc: Global,
     map: &PermissionMap,
@@ -96,7 +97,7 @@ fn read_parts<R: Source>(
     Ok(header)
 }
 
-/// What was found of the bytes, where the entries could be held.
+/// Returns the verdict on the bytes, unless the entries could not be stored.
 fn found_in(parts: Result<Header, Stop>) -> Option<Result<Header, CheckRefusal>>
     ensures { result ≡ found_of parts }
 {
@@ -107,12 +108,12 @@ fn found_in(parts: Result<Header, Stop>) -> Option<Result<Header, CheckRefusal>>
     }
 }
 
-/// Checks that the bytes of a source, at most `most`, are a right certificate of fewest entries for the map, and answers its
-/// header or the refusal, as [`check`](crate::check) of all the bytes does. They are read to their end. `Read` is answered only
-/// where the source failed in this call, and nothing else where it did.
+/// Checks that the bytes of a source, at most `most`, are a right certificate of fewest entries for the map. Returns
+/// its header or the refusal, as [`check`](crate::check) does for all the bytes. The source is read to its end. The
+/// result is `Read` iff the source failed during this call.
 ///
-/// What is held at a time is the entries, nine bytes each, and a window of fixed size. Where the header states more entries than
-/// may come, none is held: `Memory` is answered of no such certificate.
+/// The entries, nine bytes each, and a window of fixed size are kept in memory. If the entries of the header would
+/// exceed `most`, none is stored; `Memory` is never returned for such a certificate.
 pub fn check_source<R: Source>(
     alloc: Global,
     map: &PermissionMap,

@@ -1,14 +1,14 @@
-//! Why the parts of a certificate that a source gives are not read on.
+//! Reasons to stop reading the parts of a certificate from a source.
 
 use crate::refusal::CheckRefusal;
 use certificate_format::ReadFault;
 
-/// Why the parts are not read on.
+/// The reason to stop reading.
 #[derive(Clone, Copy, PartialEq, Eq)]
 pub(crate) enum Stop {
     /// A part is refused.
     Refused(CheckRefusal),
-    /// The entries are not held: memory was refused, or more have come than may.
+    /// The entries are not stored: an allocation failed, or the bytes exceeded the limit.
     Unheld,
 }
 

@@ -1,4 +1,4 @@
-//! Whether a list of entries means a map: both are gone over page by page, from change to change.
+//! Compares a list of entries with a map by a sweep over the pages, from change to change.
 
 ghost use Rattle.std.specs.Prelude.{◌≡◌, ℕ, ◌<◌, ◌≤◌, ◌^◌, ◌↔◌, List, IsTrue, IfSome, IfNone, length};
 ghost use Rattle.pmp_encoding.specs.declared.region.Entry.{Entry};
@@ -19,7 +19,7 @@ use crate::sizes::Sizes;
 use permission_map::{PermissionMap, Run};
 use pmp_encoding::SPACE_PAGES;
 
-/// Whether entries in chains that end at `ends` give the runs' permission at each page of the space.
+/// Returns whether entries in chains with these ends give the runs' permission at each page of the space.
 fn agrees_in_chains(entries: &Entries, ends: &[usize], runs: &[Run]) -> bool
     requires later { AreLaterRuns runs.now }
     requires few { length ends.now ≤ 45 }
@@ -46,8 +46,8 @@ fn agrees_in_chains(entries: &Entries, ends: &[usize], runs: &[Run]) -> bool
     true
 }
 
-/// The later runs, where the entries that have begun give the runs' permissions on the pages from `from` to before
-/// `to`. No other entry begins there.
+/// Returns the later runs if the begun entries give the runs' permissions on the pages `from..to`, in which no other
+/// entry begins.
 fn agreed<'a>(
     slots: &[Begun; SIZES],
     sizes: &mut Sizes,
@@ -91,9 +91,9 @@ fn agreed<'a>(
     Some(rest)
 }
 
-/// Whether entries in any order give the runs' permission at each page of the space. They begin by rising first page, with room for
-/// `ROOM` keys at once.
-/// (Out of line, so that the room for the keys is no part of the frame of who calls, which touches all of its pages.)
+/// Returns whether entries in any order give the runs' permission at each page of the space. Visits them by ascending
+/// first page, with room for `ROOM` keys at once. (It is not inlined, so that the keys are not part of the caller's
+/// stack frame, all of whose pages are touched.)
 #[inline(never)]
 fn agrees_in_any_order<const ROOM: usize>(entries: &Entries, runs: &[Run]) -> bool
     requires some { 2 ≤ ROOM }
@@ -127,8 +127,8 @@ fn agrees_in_any_order<const ROOM: usize>(entries: &Entries, runs: &[Run]) -> bo
     agreed(&slots, &mut sizes, rest, page, SPACE_PAGES).is_some()
 }
 
-/// The same, with room for the keys of all entries, where they are at most 131,072. The room is part of a frame whose pages are all
-/// touched, so few entries have less of it.
+/// As above, with room for the keys of all entries if there are at most 131,072. Fewer entries get a smaller frame,
+/// because all pages of the frame are touched.
 fn agrees_by_keys(entries: &Entries, runs: &[Run]) -> bool
     requires few { count_in entries.now < 2 ^ 19 }
     requires later { AreLaterRuns runs.now }
@@ -144,7 +144,7 @@ fn agrees_by_keys(entries: &Entries, runs: &[Run]) -> bool
     }
 }
 
-/// Whether the first entry that covers a page has the runs' permission, at each page of the space.
+/// Returns whether the first entry that covers a page has the runs' permission, for each page of the space.
 pub(crate) fn agrees(entries: &Entries, runs: &[Run]) -> bool
     requires few { count_in entries.now < 2 ^ 19 }
     requires later { AreLaterRuns runs.now }
@@ -159,7 +159,7 @@ pub(crate) fn agrees(entries: &Entries, runs: &[Run]) -> bool
     }
 }
 
-/// Whether the entries mean the map.
+/// Returns whether the entries mean the map.
 pub(crate) fn means(entries: &Entries, map: &PermissionMap) -> bool
     requires { count_in entries.now < 2 ^ 19 }
     ensures { (es : List Entry) → SpellsEntries entries.now es → AreNoSubPages es

@@ -1,24 +1,24 @@
-//! A window of fixed size through which the bytes of a source are read.
+//! Reads the bytes of a source through a window of fixed size.
 
 use text_lines::{Buffer, Source, SourceFault};
 
-/// How many bytes a window has room for.
+/// Size of a window in bytes.
 const ROOM: usize = 16384;
 
-/// Whether more bytes may come, and why not.
+/// Whether more bytes may arrive, or the reason why not.
 #[derive(Clone, Copy)]
 pub(crate) enum Inflow {
-    /// The source was not read to its end.
+    /// The source has not been read to its end.
     Open,
     /// The source has no more bytes.
     AtEnd,
-    /// More bytes have come than may.
+    /// More bytes have arrived than allowed.
     TooLarge,
     /// The source has failed.
     Failed,
 }
 
-/// A window over a source: the bytes that have come and are not yet used.
+/// A window over a source: the bytes that have arrived and are not yet used.
 #[derive(Drop)]
 pub(crate) struct Window {
     buffer: Buffer<ROOM>,
@@ -32,7 +32,7 @@ impl Window {
     ghost use Rattle.certificate_check.specs.declared.window.Inflow.TheVariants.{Open, TooLarge};
     ghost use Rattle.certificate_check.specs.Windows.{counted, fault_of, place, stopped_by, HasEnough, Reads, Stays};
 
-    /// A window to which no byte has come, and to which at most `most` may.
+    /// Returns an empty window that accepts at most `most` bytes.
     pub(crate) fn new(most: u64) -> Window
         ensures buffer { result.buffer ≡ [] }
         ensures came { result.came ≡ 0 }
@@ -47,14 +47,14 @@ impl Window {
         }
     }
 
-    /// How many bytes may come.
+    /// Returns the maximum number of bytes.
     pub(crate) fn most(&self) -> u64
         ensures { result ≡ self.now.most }
     {
         self.most
     }
 
-    /// The bytes that are there.
+    /// Returns the bytes in the window.
     #[inline(always)]
     pub(crate) fn held(&self) -> &[u8]
         ensures value { result.now ≡ self.now.buffer }
@@ -63,7 +63,7 @@ impl Window {
         self.buffer.as_slice()
     }
 
-    /// Lets go of the first bytes.
+    /// Drops the first bytes.
     #[inline(always)]
     pub(crate) fn pass(&mut self, count: usize)
         requires { count ≤ length self.old.buffer }
@@ -75,7 +75,7 @@ impl Window {
         self.buffer.consume(count);
     }
 
-    /// Whether the source may have more bytes.
+    /// Returns whether the source may have more bytes.
     fn is_open(&self) -> bool
         ensures { IsTrue result ↔ self.now.inflow ≡ Open }
     {
@@ -87,7 +87,7 @@ impl Window {
         }
     }
 
-    /// Why not all of the bytes came, where they did not.
+    /// Returns the reason why not all bytes arrived, if some are missing.
     pub(crate) fn fault(&self) -> Option<SourceFault>
         ensures { result ≡ fault_of self.now.inflow }
     {
@@ -99,7 +99,8 @@ impl Window {
         }
     }
 
-    /// Why there is no verdict, where the entries are not held. What became of the source goes before.
+    /// Returns the reason why there is no verdict if the entries are not stored. A fault of the source takes
+    /// precedence.
     pub(crate) fn stopped_by(&self) -> SourceFault
         ensures { result ≡ stopped_by self.now.inflow }
     {
@@ -111,7 +112,7 @@ impl Window {
         }
     }
 
-    /// Counts bytes that have come.
+    /// Counts arrived bytes.
     fn count(&mut self, count: usize)
         requires { self.old.inflow ≡ Open }
         ensures buffer { self.new.buffer ≡ self.old.buffer }
@@ -127,7 +128,7 @@ impl Window {
         }
     }
 
-    /// Reads some bytes after those that are there, where more may come.
+    /// Reads some bytes after those in the window, if more may arrive.
     fn read_more<R: Source>(&mut self, source: &mut R)
         requires room { length self.old.buffer < 16384 }
         ensures reads { Reads (place R.remaining R.failures self.old source.old)
@@ -148,7 +149,7 @@ impl Window {
         }
     }
 
-    /// Reads until `need` bytes are there, or no more come.
+    /// Reads until the window has `need` bytes, or no more arrive.
     #[cold]
     #[inline(never)]
     fn fill<R: Source>(&mut self, source: &mut R, need: usize)
@@ -165,7 +166,7 @@ impl Window {
         }
     }
 
-    /// Sees to it that `need` bytes are there, or that no more come.
+    /// Ensures that the window has `need` bytes, unless no more arrive.
     #[inline(always)]
     pub(crate) fn hold<R: Source>(&mut self, source: &mut R, need: usize)
         requires { need ≤ 16384 }
@@ -179,7 +180,7 @@ impl Window {
         self.fill(source, need);
     }
 
-    /// Whether no byte is left.
+    /// Returns whether no bytes are left.
     pub(crate) fn is_done<R: Source>(&mut self, source: &mut R) -> bool
         ensures { Reads (place R.remaining R.failures self.old source.old)
             (place R.remaining R.failures self.new source.new)
@@ -189,7 +190,7 @@ impl Window {
         self.held().is_empty()
     }
 
-    /// Lets go of what is there, and of what comes.
+    /// Drops the bytes in the window and all that arrive.
     pub(crate) fn drain<R: Source>(&mut self, source: &mut R)
         requires { self.old.most < 2 ^ 32 }
         ensures reads { Reads (place R.remaining R.failures self.old source.old)

@@ -1,4 +1,4 @@
--- The six costs of a split block, one for each permission that can surround it.
+-- The six costs of a split block, one for each permission that it can inherit.
 use Rattle.std.specs.Prelude.{ℕ, List, drop}
 use Rattle.byteorder.specs.Endian.{little_number}
 use Rattle.pmp_encoding.specs.declared.perm.Perm.{Perm}
@@ -15,7 +15,7 @@ cost_of costs Execute = costs.execute
 cost_of costs ReadExecute = costs.read_execute
 cost_of costs ReadWriteExecute = costs.read_write_execute
 
--- the six numbers of four bytes each, the lowest byte first
+-- the costs in six little-endian numbers of four bytes each
 abbrev pub costs_in : List ℕ → SixCosts
 costs_in bytes = record {
   no_access = little_number 4 bytes;
@@ -26,7 +26,7 @@ costs_in bytes = record {
   read_write_execute = little_number 4 (drop 20 bytes);
 }
 
--- six numbers from a number for each permission
+-- the costs as a record, from a function of the permission
 abbrev pub six_of : (Perm → ℕ) → SixCosts
 six_of costs = record {
   no_access = costs NoAccess;

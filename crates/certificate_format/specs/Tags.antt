@@ -1,9 +1,9 @@
--- The byte that a node begins with.
+-- The first byte of a node.
 use Rattle.std.specs.Prelude.{ℕ}
 use Rattle.certificate_format.specs.declared.reader.Tag.{Tag}
 use Rattle.certificate_format.specs.declared.reader.Tag.TheVariants.{Leaf, Branch}
 
--- the byte that begins a leaf or a branch
+-- the first byte of a leaf or a branch
 abbrev pub tag_byte : Tag → ℕ
 tag_byte Leaf = 0
 tag_byte Branch = 1

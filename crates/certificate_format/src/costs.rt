@@ -1,10 +1,10 @@
-//! The six costs of a node, as bytes.
+//! The six costs of a branch as bytes.
 
 use byteorder::{ByteOrder, LittleEndian};
 use pmp_encoding::Perm;
 use std::marker::Model;
 
-/// A number for each permission: how many entries a block costs at least, where that permission surrounds it.
+/// A number for each permission: the least number of entries of a block that inherits that permission.
 #[derive(Clone, Copy)]
 pub struct SixCosts {
     pub no_access: u32,
@@ -21,7 +21,7 @@ ghost use Rattle.pmp_encoding.specs.declared.perm.Perm.{Perm};
 ghost use Rattle.certificate_format.specs.Costs.{cost_of};
 ghost use Rattle.certificate_format.specs.Spelling.{costs_bytes};
 
-/// The four bytes from a place on, the lowest first.
+/// Reads a little-endian number of four bytes.
 fn number_at(bytes: &[u8], place: usize) -> u32
     requires { place + 4 ≤ length bytes.now }
     ensures { result ≡ little_number 4 (drop place bytes.now) }
@@ -29,8 +29,8 @@ fn number_at(bytes: &[u8], place: usize) -> u32
     LittleEndian::read_u32(&bytes[place..])
 }
 
-/// The twenty-four bytes of the costs of a branch: six numbers of four bytes each, the lowest byte first, in the order none,
-/// R, RW, X, RX, RWX.
+/// The 24 bytes of the costs of a branch: six little-endian numbers of four bytes each, in the order none, R, RW, X,
+/// RX, RWX.
 #[derive(Drop)]
 pub struct BranchCosts<'a> {
     bytes: &'a [u8],
@@ -57,7 +57,7 @@ impl<'a> BranchCosts<'a> {
         BranchCosts { bytes }
     }
 
-    /// The cost where this permission surrounds the block.
+    /// Returns the cost if the block inherits this permission.
     pub fn cost(&self, perm: Perm) -> u32
         ensures { result ≡ cost_of self.now perm }
     {
@@ -71,7 +71,7 @@ impl<'a> BranchCosts<'a> {
         }
     }
 
-    /// All six costs.
+    /// Returns all six costs.
     #[inline(always)]
     pub fn six(&self) -> SixCosts
         ensures { result ≡ self.now }

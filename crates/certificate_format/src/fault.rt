@@ -1,6 +1,6 @@
-//! Why the next part of a certificate cannot be read.
+//! Faults in the next part of a certificate.
 
-/// Why the next part of a certificate cannot be read. The numbers are those that the program prints.
+/// The reason why the next part of a certificate cannot be read. The program prints these numbers.
 #[derive(Clone, Copy, PartialEq, Eq, Debug)]
 pub enum ReadFault {
     /// The first four bytes are not `PMPC`.
@@ -9,9 +9,9 @@ pub enum ReadFault {
     BadVersion = 2,
     /// The bytes end within the part.
     Truncated = 3,
-    /// The byte is neither a leaf's tag nor a branch's.
+    /// The byte is the tag of neither a leaf nor a branch.
     BadTag = 4,
-    /// The byte is no permission.
+    /// The byte is not a permission.
     BadPerm = 5,
     /// The limit of a version 2 certificate is neither 16 nor 64.
     BadLimit = 16,
@@ -21,7 +21,7 @@ impl ReadFault {
     ghost use Rattle.std.specs.Prelude.{◌≡◌};
     ghost use Rattle.certificate_format.specs.Faults.{read_fault_number};
 
-    /// Its number, which is that of the checker's refusal of the same name.
+    /// Returns the number, which is also that of the checker's refusal of the same name.
     pub fn number(self) -> u8
         ensures { result ≡ read_fault_number self }
     {

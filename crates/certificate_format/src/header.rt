@@ -1,8 +1,8 @@
-//! The header of a certificate: its version, its limit, and the number of entries.
+//! The header of a certificate: its version, its limit and the number of entries.
 
 use pmp_encoding::Limit;
 
-/// The form of a certificate: the first says no limit and means sixteen, the second names its limit.
+/// The version of the format: version 1 implies a limit of sixteen, version 2 contains its limit.
 #[derive(Clone, Copy, PartialEq, Eq)]
 pub enum Version {
     One,
@@ -13,7 +13,7 @@ impl Version {
     ghost use Rattle.std.specs.Prelude.{◌≡◌};
     ghost use Rattle.certificate_format.specs.Spelling.{limit_of_version};
 
-    /// How many entries the certificate's hart has.
+    /// Returns the number of entries of the certificate's hart.
     pub fn limit(self) -> Limit
         ensures { result ≡ limit_of_version self }
     {
@@ -24,7 +24,7 @@ impl Version {
     }
 }
 
-/// What comes before the entries: the form, and the number of entries.
+/// The part before the entries: the version, and the number of entries.
 #[derive(Clone, Copy, PartialEq, Eq)]
 pub struct Header {
     pub version: Version,

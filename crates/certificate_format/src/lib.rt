@@ -1,11 +1,11 @@
-//! The bytes of a certificate: what they spell, and a cursor that reads them.
+//! The byte format of a certificate, and a cursor that reads it.
 //!
-//! A certificate holds a list of PMP entries and a tree of lower bounds: a block of the address space has one
-//! permission, or six numbers and two halves. Who reads it can tell that the list means a view, and that no
-//! shorter list does. This crate knows neither how certificates are made nor how they are checked.
+//! A certificate contains a list of PMP entries and a tree of lower bounds: a block of the address space has one
+//! permission, or six numbers and two halves. A reader can verify that the list means the view and that no shorter list
+//! does. This crate does not depend on how certificates are made or checked.
 //!
-//! For the layer above: [`Reader`] hands out, part by part, exactly what the spelling says is at that place, and
-//! stays where it was on a refusal. It borrows its bytes, copies none of them and takes no memory.
+//! For the layer above: [`Reader`] returns the parts one by one, exactly as `specs/Spelling.antt` defines them, and
+//! does not advance on a fault. It borrows its bytes, copies none of them and does not allocate.
 //!
 //! ```rust
 //! let mut reader = Reader::new(bytes);

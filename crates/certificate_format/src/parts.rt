@@ -1,10 +1,10 @@
-//! The parts of a certificate that are of a fixed length.
+//! The parts of a certificate that have a fixed length.
 
 use byteorder::{ByteOrder, LittleEndian};
 use std::marker::Model;
 
-/// The nine bytes of an entry: a configuration byte, and an address register of eight bytes, the lowest first.
-/// (RISC-V Privileged Architecture, Physical Memory Protection CSRs)
+/// The nine bytes of an entry: a configuration byte and a little-endian address register of eight bytes. (RISC-V
+/// Privileged Architecture, Physical Memory Protection CSRs)
 #[derive(Drop)]
 pub struct EntryBytes<'a> {
     bytes: &'a [u8],
@@ -34,14 +34,14 @@ impl<'a> EntryBytes<'a> {
         EntryBytes { bytes }
     }
 
-    /// The configuration byte, as in a pmpcfg register.
+    /// Returns the configuration byte, as in a pmpcfg register.
     pub fn cfg(&self) -> u8
         ensures { result ≡ self.now.0 }
     {
         self.bytes[0]
     }
 
-    /// The address register, as in a pmpaddr register: bits 55 to 2 of an address.
+    /// Returns the address register, as in a pmpaddr register: bits 55 to 2 of an address.
     pub fn address(&self) -> u64
         ensures { result ≡ self.now.1 }
     {

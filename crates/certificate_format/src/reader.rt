@@ -19,14 +19,14 @@ use byteorder::{ByteOrder, LittleEndian};
 use pmp_encoding::{Limit, Perm};
 use std::marker::Model;
 
-/// What kind of node begins here.
+/// The kind of the next node.
 #[derive(Clone, Copy, PartialEq, Eq)]
 pub enum Tag {
     Leaf,
     Branch,
 }
 
-/// A place in the bytes of a certificate. A clause sees the bytes that are left.
+/// A position in the bytes of a certificate. Contracts see the remaining bytes.
 #[derive(Drop)]
 pub struct Reader<'a> {
     bytes: &'a [u8],
@@ -90,22 +90,22 @@ fn header_of(bytes: &[u8]) -> Result<(Header, &[u8]), ReadFault>
 }
 
 impl<'a> Reader<'a> {
-    /// A cursor at the front of the bytes.
+    /// Returns a cursor at the front of the bytes.
     pub fn new(bytes: &'a [u8]) -> Reader<'a>
         ensures { result ≡ bytes.entry.now }
     {
         Reader { bytes }
     }
 
-    /// The bytes that are left.
+    /// Returns the remaining bytes.
     pub fn rest(&self) -> &'a [u8]
         ensures { result.now ≡ self.now }
     {
         self.bytes
     }
 
-    /// The form, and the number of entries. Answers `Truncated` where bytes are missing, and `BadMagic`, `BadVersion`
-    /// or `BadLimit` where they are wrong. On a fault the cursor stays where it is, here and below.
+    /// Reads the version and the number of entries. Fails with `Truncated` if bytes are missing, and with `BadMagic`,
+    /// `BadVersion` or `BadLimit` if they are wrong. On a fault this method, like those below, does not advance.
     pub fn header(&mut self) -> Result<Header, ReadFault>
         ensures read { IfOk result (λ header. self.old ≡ header_bytes header ++ self.new) }
         ensures fits { IfOk result (λ header. header.count < 2 ^ 32) }
@@ -119,7 +119,7 @@ impl<'a> Reader<'a> {
         Ok(header)
     }
 
-    /// The nine bytes of the next entry, whatever they say. Answers `Truncated` where fewer are left.
+    /// Reads the nine bytes of the next entry, without checking them. Fails with `Truncated` if fewer remain.
     pub fn entry(&mut self) -> Result<EntryBytes<'a>, ReadFault>
         ensures read { IfOk result (λ pair. self.old ≡ pair_bytes pair ++ self.new) }
         ensures fits { IfOk result (λ pair. pair.1 < 2 ^ 64) }
@@ -136,7 +136,7 @@ impl<'a> Reader<'a> {
         Ok(EntryBytes::of(bytes))
     }
 
-    /// The kind of the node that begins here. Answers `Truncated` at the end, and `BadTag` where another byte is there.
+    /// Reads the kind of the next node. Fails with `Truncated` at the end, and with `BadTag` for any other byte.
     pub fn tag(&mut self) -> Result<Tag, ReadFault>
         ensures read { IfOk result (λ tag. self.old ≡ tag_byte tag ∷ self.new) }
         ensures whole { (tag : Tag) (rest : List ℕ) → self.old ≡ tag_byte tag ∷ rest
@@ -156,7 +156,7 @@ impl<'a> Reader<'a> {
         Ok(tag)
     }
 
-    /// The permission of a leaf. Answers `Truncated` at the end, and `BadPerm` where another byte is there.
+    /// Reads the permission of a leaf. Fails with `Truncated` at the end, and with `BadPerm` for any other byte.
     #[inline(always)]
     pub fn perm(&mut self) -> Result<Perm, ReadFault>
         ensures read { IfOk result (λ perm. self.old ≡ bits_of perm ∷ self.new) }
@@ -175,7 +175,8 @@ impl<'a> Reader<'a> {
         Ok(perm)
     }
 
-    /// The bytes of the six costs of a branch, whatever they say. Answers `Truncated` where fewer than twenty-four bytes are left.
+    /// Reads the bytes of the six costs of a branch, without checking them. Fails with `Truncated` if fewer than 24
+    /// bytes remain.
     pub fn costs(&mut self) -> Result<BranchCosts<'a>, ReadFault>
         ensures read { IfOk result (λ costs.
             self.old ≡ costs_bytes (cost_of costs) ++ self.new) }

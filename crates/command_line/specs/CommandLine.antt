@@ -1,4 +1,4 @@
--- The program's command line, as `clap` sees it, and the request that it names.
+-- The program's command line, as `clap` sees it, and its request.
 use Rattle.std.specs.Prelude.{Bool, true, false, List, [], ◌∷◌, Option, Some, None, codes, ◌≡◌, ◌⊎◌}
 use Rattle.std.specs.Prelude.{ℕ, length}
 use Rattle.std.specs.Borrow.{Bor}
@@ -25,11 +25,11 @@ use Rattle.command_line.specs.Requests.{HasRequest, IsFaultOfRequest}
 use Rattle.command_line.specs.Subcommands.{subcommand_word, word_of}
 use Rattle.command_line.specs.Tasks.{IsSound}
 
--- a file that is named by its place among the words
+-- a positional file
 abbrev pub file_rule : Text → Bool → Rule
 file_rule name is_required = record (new_rule name) { action = Some Set; required = is_required }
 
--- an option with a value, and the one that it has where it is not given
+-- an option with a value, which may have a default
 abbrev pub option_rule : Text → List Text → Rule
 option_rule name defaults = record (new_rule name) {
   long = Some name;
@@ -38,11 +38,11 @@ option_rule name defaults = record (new_rule name) {
   defaults = defaults;
 }
 
--- an option with a value that has to be given
+-- a required option with a value
 abbrev pub needed_rule : Text → Rule
 needed_rule name = record (option_rule name []) { required = true }
 
--- an option that has as many values as its usage has names for them, and none where it is not given
+-- an option with as many values as its usage names, and without a default
 abbrev pub values_rule : Text → ℕ → Rule
 values_rule name count = record (option_rule name []) { value_names = count }
 
@@ -50,7 +50,7 @@ values_rule name count = record (option_rule name []) { value_names = count }
 abbrev pub flag_rule : Text → Rule
 flag_rule name = record (new_rule name) { long = Some name; action = Some SetTrue }
 
--- the value that an option has where it is not given, if it has one
+-- the default value of an option, if it has one
 abbrev pub defaults_by : Option (Bor Text) → List Text
 defaults_by None = []
 defaults_by (Some word) = word.now ∷ []
@@ -64,41 +64,41 @@ rule_by (Value name value default help) = option_rule name.now (defaults_by defa
 rule_by (Needed name value help) = needed_rule name.now
 rule_by (Values name values help) = values_rule name.now (length values.now)
 
--- with the rules of these arguments, in turn
+-- an app with the rules of these arguments, in order
 unfoldable pub with_arguments : App → List Argument → App
 with_arguments app [] = app
 with_arguments app (argument ∷ rest) = with_arguments (with_rule app (rule_by argument)) rest
 
--- with these rules, in turn
+-- an app with these rules, in order
 abbrev pub with_rules : App → List Rule → App
 with_rules app [] = app
 with_rules app (rule ∷ rules) = with_rules (with_rule app rule) rules
 
--- `--entries`, which is 16 where it is not given
+-- `--entries`, by default 16
 abbrev pub entries_rule : Rule
 entries_rule = option_rule (codes "entries") (codes "16" ∷ [])
 
--- `--at-most`, which has no value where it is not given
+-- `--at-most`, without a default
 abbrev pub at_most_rule : Rule
 at_most_rule = option_rule (codes "at-most") []
 
--- `--format`, which is text where it is not given
+-- `--format`, by default text
 abbrev pub format_rule : Rule
 format_rule = option_rule (codes "format") (codes "text" ∷ [])
 
--- `--xlen`, which is 64 where it is not given
+-- `--xlen`, by default 64
 abbrev pub xlen_rule : Rule
 xlen_rule = option_rule (codes "xlen") (codes "64" ∷ [])
 
--- `--mode`, which is u where it is not given
+-- `--mode`, by default u
 abbrev pub mode_rule : Rule
 mode_rule = option_rule (codes "mode") (codes "u" ∷ [])
 
--- `--registers`, which takes no value
+-- `--registers`, without a value
 abbrev pub registers_rule : Rule
 registers_rule = flag_rule (codes "registers")
 
--- `--hints`, which is auto where it is not given
+-- `--hints`, by default auto
 abbrev pub hints_rule : Rule
 hints_rule = option_rule (codes "hints") (codes "auto" ∷ [])
 
@@ -129,17 +129,17 @@ rules_by subcommands.Measure = file_rule (codes "FILE") true ∷ needed_rule (co
 rules_by subcommands.Platform = file_rule (codes "BOARD") true ∷ values_rule base_name 2
     ∷ hints_rule ∷ []
 
--- what a subcommand is described as
+-- the description of a subcommand
 abbrev pub app_by : Subcommand → App
 app_by subcommand = with_rules (new_app (subcommand_word subcommand)) (rules_by subcommand)
 
--- with these subcommands, in turn
+-- an app with these subcommands, in order
 unfoldable pub with_subcommands : App → List Subcommand → App
 with_subcommands app [] = app
 with_subcommands app (subcommand ∷ rest) =
     with_subcommands (with_subcommand app (app_by subcommand).top) rest
 
--- the program before its subcommands, which tells its version: one of them has to be named
+-- the program without its subcommands, with a version: a subcommand is required
 abbrev pub bare_app : App
 bare_app = record {
   top = record (new_app (codes "pmpmon")).top {
@@ -155,38 +155,39 @@ program_app = with_subcommands bare_app (subcommands.Run ∷ subcommands.Plan �
     ∷ subcommands.Check ∷ subcommands.Show ∷ subcommands.Audit ∷ subcommands.Map
     ∷ subcommands.Lint ∷ subcommands.Measure ∷ subcommands.Platform ∷ [])
 
--- a command is described so, and none of its arguments holds in the subcommands below it too
+-- a command has this description, and none of its arguments is global
 pub record IsCommandOf (description : App) (command : Command) : Type 0 where
   pub app : app_of command ≡ description
   pub local : (out-Command command).has_globals ≡ false
 
--- the request is the subcommand that was entered, with the values of its rows
+-- the request is the entered subcommand, with the values of its rows
 abbrev pub IsRequest : Option (Text × List Row) → Request → Type 0
 IsRequest found request =
     (rows : List Row) × (found ≡ Some (word_of request.task, rows))
     × HasRequest (value_of rows) (λ name. one_of name rows) request
 
--- no request for a sound task is the subcommand that was entered
+-- the entered subcommand is not a request for a sound task
 abbrev pub AreNone : Option (Text × List Row) → Type 0
 AreNone found = (request : Request) → IsRequest found request
     → ¬ IsSound request.task request.options
 
--- the fault of what was entered: the first demand of the subcommand that its rows lack, or that
--- there is no subcommand
+-- the fault of the entered words: the first demand of the subcommand that its rows do not meet, or
+-- that the subcommand is missing
 abbrev pub IsFaultIn : Option (Text × List Row) → Fault → Type 0
 IsFaultIn None fault = fault ≡ Missing
 IsFaultIn (Some (name, rows)) fault =
     IsFaultOfRequest name (value_of rows) (λ id. one_of id rows) fault
 
--- no request for a sound task was entered, for this fault, and the error is of a mistake
+-- the entered subcommand is not a request for a sound task, with this fault, and the error is of a
+-- kind for mistakes
 pub record IsUnsound (found : Option (Text × List Row)) (kind : ErrorKind) : Type 0 where
   pub none : AreNone found
   pub fault : Fault
   pub first : IsFaultIn found fault
   pub told : IsMistake kind
 
--- words are refused by an error of this kind: where memory runs out, by a kind that `clap` has for
--- them, or where no request for a sound task is the subcommand that they enter
+-- words are rejected with an error of this kind: an allocation failed, `clap` rejects them with
+-- this kind, or their subcommand is not a request for a sound task
 abbrev pub Refuses : List Text → ErrorKind → Type 0
 Refuses words kind = (kind ≡ OutOfMemory)
     ⊎ (IsAmong kind (fault_of program_app words) ⊎ IsUnsound (subcommand_of program_app words) kind)

@@ -1,4 +1,4 @@
--- The faults of a subcommand with values that names no task.
+-- The faults of a subcommand whose values name no task.
 use Rattle.std.specs.Prelude.{List, [], ◌∷◌, ℕ, ◌<◌, Option, Some, None, ◌≡◌, ◌≢◌, ◌⊎◌, codes}
 use Rattle.std.specs.Prelude.{true}
 use Rattle.pmp_encoding.specs.declared.limit.Limit.{Limit}
@@ -23,7 +23,7 @@ use Rattle.command_line.specs.Subcommands.{Text, subcommand_word}
 use Rattle.command_line.specs.Tasks.{BeginsAt, Counts, IsGiven, format_word, table_format_word}
 use Rattle.command_line.specs.Tasks.{input_word, is_identifier, limit_word, mode_word, width_word}
 
--- what a subcommand asks of the values of its arguments, one thing at a time
+-- a demand of a subcommand on the values of its arguments
 pub data Demand : Type 0 where
   has : Text → Demand
   names_limit : Demand
@@ -49,16 +49,16 @@ pub data Demand : Type 0 where
   spells : Text → Demand
   has_whole_pages : Demand
 
--- the values lack it: the argument of that name has no value; the word of `--entries` names no
--- limit, that of `--format` no format of a plan or of a table, that of `--xlen` no width, that of
--- `--mode` no mode, that of `--at-most` no number, that of `--name` is no identifier, that of
--- `--first` names no entry below the limit, that of `--hints` not whether hints are given; the map
--- and that other file are both standard input; the certificate is the map; the file is said to be a
--- listing and a trace; answers are to be explained and to be compared; a platform is named where it
--- is said to be no trace; of registers another table is asked for than the text, or costs of what
--- is no text of a map, or machine mode of a map; the word of that option is no number; no enclave
--- has pages like those, or an entry like that; a word of a monitor's two is no number; or these are
--- no whole pages
+-- the values do not meet the demand: the argument with this name has no value; the word of
+-- `--entries` is not a limit, that of `--format` not a format of a plan or of a table, that of
+-- `--xlen` not a width, that of `--mode` not a mode, that of `--at-most` not a number, that of
+-- `--name` not an identifier, that of `--first` not an entry below the limit, that of `--hints` not
+-- valid; the map and the other file are both standard input; the certificate is the map; the file
+-- is a listing and a trace at once; answers are to be explained and compared at once; a platform is
+-- named without a trace; a table of registers is requested in another format than text, or costs
+-- without the text of a map, or machine mode for a map; the word of the option is not a number; no
+-- enclave has these pages, or this entry point; one of the two words for the monitor is not a
+-- number; or these are not whole pages
 abbrev pub Lacks : (Text → Option Text) → (Text → Option Text) → Demand → Type 0
 Lacks value flag (has name) = value name ≡ None
 Lacks value flag names_limit = (limit : Limit) → value (codes "entries") ≢ Some (limit_word limit)
@@ -97,8 +97,8 @@ Lacks value flag (spells name) = (base size word : Text) × (value base_name ≡
 Lacks value flag has_whole_pages = (base size : ℕ) × IsNumber (value base_name) base
     × IsNumber (value size_name) size × ¬ AreWholePages base size
 
--- what is reported where they lack it: a value of an option with its word, a certificate in the
--- place of its map with the map
+-- the report on an unmet demand: the word of an option with an invalid value, or the map for a
+-- certificate that would replace it
 abbrev pub Tells : (Text → Option Text) → Demand → Fault → Type 0
 Tells value (has name) fault = fault ≡ faults.Missing
 Tells value names_limit (faults.Entries word) = value (codes "entries") ≡ Some word.now
@@ -126,27 +126,27 @@ Tells value (spells name) (faults.Monitor word) = value name ≡ Some word.now
 Tells value has_whole_pages fault = fault ≡ faults.MonitorPages
 Tells value demand fault = ⊥
 
--- the fault of one demand: the values lack it, and that is reported
+-- the fault of one demand: the values do not meet it, and this is reported
 abbrev pub Breaks : (Text → Option Text) → (Text → Option Text) → Demand → Fault → Type 0
 Breaks value flag demand fault = Lacks value flag demand × Tells value demand fault
 
--- the fault of the first of these demands that the values lack
+-- the fault of the first of these demands that the values do not meet
 abbrev pub IsFirst : (Text → Option Text) → (Text → Option Text) → List Demand → Fault → Type 0
 IsFirst value flag [] fault = ⊥
 IsFirst value flag (demand ∷ demands) fault = Breaks value flag demand fault
     ⊎ (¬ Lacks value flag demand × IsFirst value flag demands fault)
 
--- what is asked of the layout of an enclave
+-- the demands on the layout of an enclave
 abbrev pub of_layout : List Demand
 of_layout = has (codes "text") ∷ numbers (codes "text") ∷ has (codes "data")
     ∷ numbers (codes "data") ∷ has (codes "shared") ∷ numbers (codes "shared")
     ∷ has (codes "entry") ∷ numbers (codes "entry") ∷ has_pages ∷ enters_text ∷ []
 
--- what is asked of where a monitor is
+-- the demands on the range of a monitor
 abbrev pub of_monitor : List Demand
 of_monitor = spells base_name ∷ spells size_name ∷ has_whole_pages ∷ []
 
--- what each subcommand asks, in the order in which it is looked at
+-- the demands of each subcommand, in the order of their checks
 abbrev pub demands_of : Subcommand → List Demand
 demands_of subcommands.Run = has (codes "PLATFORM") ∷ has (codes "TRACE") ∷ one_answer ∷ []
 demands_of subcommands.Plan =
@@ -169,8 +169,8 @@ demands_of subcommands.Lint = has (codes "FILE") ∷ one_kind ∷ of_trace ∷ h
 demands_of subcommands.Measure = has (codes "FILE") ∷ of_layout
 demands_of subcommands.Platform = has (codes "BOARD") ∷ of_monitor
 
--- the fault of a subcommand's values: the first demand that they lack tells it, and a word that is
--- no subcommand is a required argument that is missing
+-- the fault of a subcommand's values: that of the first demand that they do not meet; a word that
+-- is not a subcommand counts as a missing argument
 pub data IsFaultOf (name : Text) (value flag : Text → Option Text) (fault : Fault) : Type 0 where
   first : (subcommand : Subcommand) → name ≡ subcommand_word subcommand
       → IsFirst value flag (demands_of subcommand) fault → IsFaultOf name value flag fault

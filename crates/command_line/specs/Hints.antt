@@ -1,16 +1,16 @@
--- Whether hints are given.
+-- The setting for hints.
 use Rattle.std.specs.Prelude.{Bool, true, false, codes}
 use Rattle.command_line.specs.declared.hints.Hints.{Hints}
 use Rattle.command_line.specs.declared.hints.Hints.TheVariants.{Auto, Always, Never}
 use Rattle.command_line.specs.Subcommands.{Text}
 
--- the word that names when hints are given
+-- the word for when hints are printed
 abbrev pub hints_word : Hints → Text
 hints_word Auto = codes "auto"
 hints_word Always = codes "always"
 hints_word Never = codes "never"
 
--- whether they are given, by whether standard error is a terminal
+-- hints are printed, given whether standard error is a terminal
 abbrev pub are_told : Hints → Bool → Bool
 are_told Auto is_terminal = is_terminal
 are_told Always is_terminal = true

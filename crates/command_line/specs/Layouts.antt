@@ -1,4 +1,4 @@
--- The layout of an enclave, as a command line gives it.
+-- The layout of an enclave, from the command line.
 use Rattle.std.specs.Prelude.{ℕ, ◌≡◌, Option, Some, None, codes}
 use Rattle.text_lines.specs.Numbers.{number_of}
 use Rattle.measurement.specs.declared.measured.Layout.{Layout}
@@ -6,19 +6,19 @@ use Rattle.measurement.specs.declared.request.Create.{Create}
 use Rattle.measurement.specs.Requests.{HasCounts, HasEntry}
 use Rattle.command_line.specs.Subcommands.{Text}
 
--- a number, which a word spells
+-- the number that a word spells
 abbrev pub IsNumber : Option Text → ℕ → Type 0
 IsNumber None n = ⊥
 IsNumber (Some word) n = number_of word ≡ Some n
 
--- the layout that the values of `--text`, `--data`, `--shared` and `--entry` give
+-- the layout from the values of `--text`, `--data`, `--shared` and `--entry`
 pub record IsLaidOut (value : Text → Option Text) (layout : Layout) : Type 0 where
   pub text : IsNumber (value (codes "text")) layout.text_pages
   pub data_is : IsNumber (value (codes "data")) layout.data_pages
   pub shared : IsNumber (value (codes "shared")) layout.shared_count
   pub entry : IsNumber (value (codes "entry")) layout.entry_offset
 
--- an enclave of that layout with its pages from address 0 on
+-- an enclave with this layout whose pages begin at address 0
 abbrev pub at_zero : Layout → Create
 at_zero layout = record {
   base = 0;
@@ -29,7 +29,7 @@ at_zero layout = record {
   entry_offset = layout.entry_offset;
 }
 
--- an enclave can have that layout: the monitor takes its numbers, wherever its pages are
+-- an enclave can have this layout: the monitor accepts its numbers, wherever its pages are
 pub record IsEnclave (layout : Layout) : Type 0 where
   pub counts : HasCounts (at_zero layout)
   pub entry : HasEntry (at_zero layout)

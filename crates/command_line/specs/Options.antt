@@ -1,4 +1,4 @@
--- How a task is done where nothing is said of it.
+-- The default options of a task.
 use Rattle.std.specs.Prelude.{false, None}
 use Rattle.pmp_encoding.specs.declared.xlen.Xlen.TheVariants.{Rv64}
 use Rattle.pmp_match.specs.declared.access.Mode.TheVariants.{User}
@@ -9,10 +9,9 @@ use Rattle.command_line.specs.declared.options.LintKind.TheVariants.{ByName}
 use Rattle.command_line.specs.declared.options.Options.{Options}
 use Rattle.command_line.specs.declared.options.TableFormat.TheVariants as tables
 
--- the options of a command line that names none: a plan or a table as text, from entry 0 on, of any
--- size and without a name; registers of 64 bits as user mode is bound by them, and no listing of
--- them in a map's place; answers alone; the first stretch that differs; a file by its name; no
--- costs; and hints at a terminal
+-- the default options: a plan or a table as text, from entry 0 on, of any size and without a name;
+-- registers of 64 bits and user mode, and no listing of registers instead of a map; plain answers;
+-- only the first stretch that differs; a file by its name; no costs; and hints on a terminal
 abbrev pub default_options : Options
 default_options = record {
   format = formats.Text;

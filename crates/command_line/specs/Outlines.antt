@@ -6,8 +6,7 @@ use Rattle.command_line.specs.declared.task.Task.{Task}
 use Rattle.command_line.specs.declared.task.Task.TheVariants as tasks
 use Rattle.command_line.specs.declared.task.TaskOutline.{TaskOutline}
 
--- what each task is: its subcommand, what it reads first and after that, and the certificate that
--- it writes
+-- the outline of each task: its subcommand, its first and second input, and its certificate file
 abbrev pub outline_of : Task → TaskOutline
 outline_of (tasks.Run platform trace measure) =
     record { subcommand = subcommands.Run; first = platform; second = Some trace; cert = None }
@@ -30,7 +29,7 @@ outline_of (tasks.Measure file layout) =
 outline_of (tasks.Platform board monitor) =
     record { subcommand = subcommands.Platform; first = board; second = None; cert = None }
 
--- the name of a file, where there is one, and otherwise that of none
+-- the name of a file, or the empty name if there is no file
 abbrev pub name_or_none : Option (Bor (List ℕ)) → List ℕ
 name_or_none None = []
 name_or_none (Some name) = name.now

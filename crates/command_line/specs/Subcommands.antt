@@ -1,4 +1,4 @@
--- The program's subcommands: the word that names each, and which of them a task is.
+-- The program's subcommands: the word that names each, and the subcommand of each task.
 use Rattle.std.specs.Prelude.{ℕ, List, ◌++◌, codes}
 use Rattle.command_line.specs.declared.task.Subcommand.{Subcommand}
 use Rattle.command_line.specs.declared.task.Subcommand.TheVariants as subcommands
@@ -30,6 +30,6 @@ usage_words subcommand = codes "pmpmon " ++ subcommand_word subcommand
 abbrev pub subcommand_of : Task → Subcommand
 subcommand_of task = (outline_of task).subcommand
 
--- its word
+-- the word that names a task's subcommand
 abbrev pub word_of : Task → Text
 word_of task = subcommand_word (subcommand_of task)

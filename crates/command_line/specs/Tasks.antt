@@ -1,4 +1,4 @@
--- What the program can be asked to do: which task a subcommand with its values is.
+-- The program's tasks: the task of a subcommand with its values.
 use Rattle.std.specs.Prelude.{ℕ, ◌<◌, ◌↔◌, ◌==◌, ◌&&◌, ◌||◌, nat_lt, Bool, true, false, [], ◌∷◌}
 use Rattle.std.specs.Prelude.{length, Option, Some, None, IfSome, codes, ◌≡◌, ◌≢◌, option_map}
 use Rattle.std.specs.List.{list_all}
@@ -58,26 +58,26 @@ mode_word Machine = codes "m"
 mode_word Supervisor = codes "s"
 mode_word User = codes "u"
 
--- the number that a word names, where there is one
+-- the number that a word spells, if there is a word
 abbrev pub Counts : Option Text → Option ℕ → Type 0
 Counts None count = count ≡ None
 Counts (Some word) count = (n : ℕ) × (number_of word ≡ Some n) × (count ≡ Some n)
 
--- the number of the entry that a plan begins at, which a word names: 0 where there is none
+-- the number of the entry at which a plan begins, from a word: 0 by default
 abbrev pub BeginsAt : Option Text → ℕ → Type 0
 BeginsAt None first = first ≡ 0
 BeginsAt (Some word) first = number_of word ≡ Some first
 
--- a flag is given, by its text
+-- a flag is given, according to its text
 abbrev pub IsGiven : Option Text → Type 0
 IsGiven text = text ≡ Some (codes "true")
 
--- whether it is
+-- the bool is true iff a flag is given
 abbrev pub IsFlag : Option Text → Bool → Type 0
 IsFlag text given = (given ≡ true) ↔ IsGiven text
 
--- what a file that is linted should be, by the flags: what its name says where none of them is
--- given. A platform is named for a trace alone
+-- the kind of a file to lint, according to the flags: by its name if no flag is given. A platform
+-- is named only for a trace
 abbrev pub HasKind : (Text → Option Text) → (Text → Option Text) → LintKind → Type 0
 HasKind value flag kinds.ByName = (¬ IsGiven (flag (codes "registers")))
     × (¬ IsGiven (flag (codes "trace"))) × (value (codes "platform") ≡ None)
@@ -86,8 +86,8 @@ HasKind value flag kinds.Registers = IsGiven (flag (codes "registers"))
 HasKind value flag kinds.Trace = (¬ IsGiven (flag (codes "registers")))
     × IsGiven (flag (codes "trace"))
 
--- what is written of the answers to a trace, by the flags: they are explained, or compared with
--- those that are expected, or neither
+-- the kind of answers to a trace, according to the flags: explained, compared with the expected
+-- ones, or plain
 abbrev pub HasAnswers : (Text → Option Text) → Answers → Type 0
 HasAnswers flag answers.Plain = (¬ IsGiven (flag (codes "expect")))
     × (¬ IsGiven (flag (codes "explain")))
@@ -100,18 +100,18 @@ HasAnswers flag answers.Compared = IsGiven (flag (codes "expect"))
 abbrev pub is_letter : ℕ → Bool
 is_letter b = (nat_lt 64 b && nat_lt b 91) || (nat_lt 96 b && nat_lt b 123) || b == 95
 
--- such a letter, or a decimal digit
+-- a letter of ASCII, an underscore or a decimal digit
 abbrev pub is_letter_or_digit : ℕ → Bool
 is_letter_or_digit b = is_letter b || (nat_lt 47 b && nat_lt b 58)
 
--- an identifier of C, of at most 32 bytes
+-- a C identifier of at most 32 bytes
 abbrev pub is_identifier : Text → Bool
 is_identifier [] = false
 is_identifier (first ∷ rest) = is_letter first && list_all is_letter_or_digit rest
     && nat_lt (length rest) 32
 
--- the task and its options have these values: of the subcommand's arguments and of its flags, by
--- their names
+-- the task and its options have these values of the subcommand's arguments and flags, by their
+-- names
 abbrev pub HasValues : (Text → Option Text) → (Text → Option Text) → Task → Options → Type 0
 HasValues value flag (Run platform trace measure) options =
     (value (codes "PLATFORM") ≡ Some platform.now)
@@ -172,23 +172,23 @@ HasValues value flag (Platform board monitor) options =
 abbrev pub input_word : Text
 input_word = codes "-"
 
--- of registers there is a table as text alone
+-- a table of registers exists only as text
 abbrev pub IsOfMap : Bool → TableFormat → Type 0
 IsOfMap registers format = registers ≡ true → format ≡ tables.Text
 
--- costs are in the text of a map's table alone
+-- costs are printed only with the text of a map's table
 abbrev pub IsOfText : Bool → TableFormat → Bool → Type 0
 IsOfText registers format costs = costs ≡ true → (registers ≡ false) × (format ≡ tables.Text)
 
--- machine mode is asked for of registers alone
+-- machine mode is allowed only for registers
 abbrev pub IsOfRegisters : Bool → Mode → Type 0
 IsOfRegisters registers mode = mode ≡ Machine → registers ≡ true
 
 -- standard input is not both a map and the trace or the registers beside it. A certificate does not
--- take the place of its map. The name of a plan is an identifier, and its first entry is one that
--- such a hart has. Registers have a table as text alone, costs are in the text of a map's table
--- alone, and machine mode is asked for of registers alone. What is measured is an enclave. The
--- monitor of a platform has whole pages
+-- replace its map. The name of a plan is an identifier, and its first entry is one of such a hart.
+-- A table of registers is text, costs are printed only with the text of a map's table, and machine
+-- mode is allowed only for registers. The layout to measure is that of an enclave. The monitor of a
+-- platform consists of whole pages
 abbrev pub IsSound : Task → Options → Type 0
 IsSound (Plan map cert limit) options =
     (option_map (λ s. s.now) cert ≢ Some map.now)
@@ -203,12 +203,12 @@ IsSound (Measure file layout) options = IsEnclave layout
 IsSound (Platform board monitor) options = IsOfPages monitor
 IsSound task options = Unit {0}
 
--- no sound task is that subcommand with these values
+-- this subcommand with these values is not a sound task
 abbrev pub NamesNone : Text → (Text → Option Text) → (Text → Option Text) → Type 0
 NamesNone name value flag = (task : Task) (options : Options) → word_of task ≡ name
     → HasValues value flag task options → ¬ IsSound task options
 
--- a request for a sound task is that subcommand with these values, and hints are given so
+-- this subcommand with these values is a request for a sound task, with this setting for hints
 pub record IsRequestOf (subcommand : Subcommand) (hints : Hints) (value flag : Text
     → Option Text) (request : Request) : Type 0 where
   pub named : subcommand_of request.task ≡ subcommand

@@ -1,32 +1,32 @@
-//! Why a subcommand with its values names no task, and what is said of each reason.
+//! Faults of a subcommand whose values name no task, with their messages.
 
 ghost use Rattle.command_line.specs.Kinds.{IsMistake};
 
 use clap::error::ErrorKind;
 use std::fmt;
 
-/// Why a subcommand with its values names no task.
+/// The reason why a subcommand with its values names no task.
 #[derive(Clone, Copy)]
 pub enum Fault<'a> {
-    /// There is no such subcommand, or an argument that it requires is not there.
+    /// There is no such subcommand, or a required argument is missing.
     Missing,
-    /// `--entries` has a value of another form.
+    /// The value of `--entries` is invalid.
     Entries(&'a str),
-    /// `--format` has one.
+    /// The value of `--format` is invalid.
     Format(&'a str),
-    /// `--format` of a table has one.
+    /// The value of `--format` for a table is invalid.
     TableFormat(&'a str),
-    /// `--at-most` has one.
+    /// The value of `--at-most` is invalid.
     AtMost(&'a str),
-    /// `--name` has one.
+    /// The value of `--name` is invalid.
     Name(&'a str),
-    /// `--first` has one, or names no entry of such a hart.
+    /// The value of `--first` is invalid, or is not an entry of such a hart.
     First(&'a str),
-    /// `--xlen` has one.
+    /// The value of `--xlen` is invalid.
     Xlen(&'a str),
-    /// `--mode` has one.
+    /// The value of `--mode` is invalid.
     Mode(&'a str),
-    /// `--hints` has one.
+    /// The value of `--hints` is invalid.
     Hints(&'a str),
     /// Standard input is named twice.
     InputTwice,
@@ -36,38 +36,38 @@ pub enum Fault<'a> {
     TwoAnswers,
     /// `--platform` is given without `--trace`.
     PlatformAlone,
-    /// Of registers another table is asked for than the text.
+    /// A table of registers is requested in another format than text.
     NoPicture,
-    /// Costs are asked for of what is no text of a map.
+    /// Costs are requested, but not with the text of a map.
     NoCosts,
-    /// Machine mode is asked for of a map.
+    /// Machine mode is requested for a map.
     NoMachine,
-    /// The certificate would take the place of the map of this name.
+    /// The certificate would replace the map with this name.
     TakesPlace(&'a str),
-    /// An option that takes a number has another value.
+    /// The value of a numeric option is not a number.
     Number {
         /// The name of the option.
         option: &'a str,
         /// The value.
         word: &'a str,
     },
-    /// No enclave has that many pages.
+    /// No enclave has these numbers of pages.
     Pages,
-    /// No enclave of that text is entered there.
+    /// No enclave with this text has this entry point.
     EntryOffset,
-    /// A value of `--monitor` is no number.
+    /// A value of `--monitor` is not a number.
     Monitor(&'a str),
-    /// Its values are no whole pages of the space.
+    /// The values of `--monitor` are not whole pages of the space.
     MonitorPages,
-    /// The certificate cannot be written where it is asked for, which is said so.
+    /// The certificate cannot be written to the requested place, for the given reason.
     NoPlace(&'static str),
 }
 
-/// The option whose value is of another form, as its usage has it, that value, and what is said behind them.
+/// An option with an invalid value, in the notation of its usage, the value, and the text after them.
 type Value<'a> = (&'a str, &'a str, &'static str);
 
 impl<'a> Fault<'a> {
-    /// The value of another form, where the fault is that of one.
+    /// Returns the invalid value, if the fault is about one.
     fn value(&self) -> Option<Value<'a>> {
         match *self {
             Fault::Entries(word) => Some(("entries <16|64>", word, "16, 64")),
@@ -80,7 +80,7 @@ impl<'a> Fault<'a> {
         }
     }
 
-    /// Its kind, as `clap` has it.
+    /// Returns the kind of `clap` error.
     pub(crate) fn kind(&self) -> ErrorKind
         ensures { IsMistake result }
     {
@@ -161,7 +161,7 @@ impl fmt::Display for Fault<'_> {
 }
 
 impl Fault<'_> {
-    /// What is said of a fault that quotes no word.
+    /// Returns the message for a fault that quotes no word.
     fn sentence(&self) -> &'static str {
         match self {
             Fault::InputTwice => "standard input, '-', cannot be read twice",

@@ -1,4 +1,4 @@
-//! What `clap` found among the words of a subcommand.
+//! Looks up the values that `clap` found among the words of a subcommand.
 
 ghost use Rattle.std.specs.Prelude.{◌≡◌, ◌↔◌, Some, codes, option_map, true};
 ghost use Rattle.clap.specs.Words.{first_of, found_of, rows_of};
@@ -7,7 +7,7 @@ ghost use Rattle.command_line.specs.Given.{flags_of, second_of, values_of};
 use crate::monitor::SIZE_NAME;
 use clap::ArgMatches;
 
-/// The first value of the argument of that name.
+/// Returns the first value of the argument with this name.
 fn first_in<'a>(given: &ArgMatches<'a>, name: &str) -> Option<&'a str>
     ensures { option_map (λ s. s.now) result
         ≡ first_of name.now (rows_of (found_of given.now)) }
@@ -15,7 +15,7 @@ fn first_in<'a>(given: &ArgMatches<'a>, name: &str) -> Option<&'a str>
     given.get_str(name)
 }
 
-/// The second value of the argument of that name.
+/// Returns the second value of the argument with this name.
 fn second_in<'a>(given: &ArgMatches<'a>, name: &str) -> Option<&'a str>
     ensures { option_map (λ s. s.now) result
         ≡ second_of name.now (rows_of (found_of given.now)) }
@@ -26,7 +26,7 @@ fn second_in<'a>(given: &ArgMatches<'a>, name: &str) -> Option<&'a str>
     values.get(1).copied()
 }
 
-/// The value of the argument of that name, where it has one.
+/// Returns the value of the argument with this name, if it has one.
 #[tactic(auto, unfolding(crate::specs::Given::values_of))]
 pub(crate) fn word_in<'a>(given: &ArgMatches<'a>, name: &str) -> Option<&'a str>
     ensures { option_map (λ s. s.now) result ≡ values_of given.now name.now }
@@ -37,7 +37,7 @@ pub(crate) fn word_in<'a>(given: &ArgMatches<'a>, name: &str) -> Option<&'a str>
     first_in(given, name)
 }
 
-/// Whether the flag of that name was given.
+/// Returns whether the flag with this name was given.
 pub(crate) fn is_given(given: &ArgMatches<'_>, name: &str) -> bool
     ensures { (result ≡ true) ↔ (flags_of given.now name.now ≡ Some (codes "true")) }
 {

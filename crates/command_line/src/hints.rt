@@ -1,4 +1,4 @@
-//! When the program gives hints: what is wrong with an input, after the line of the trouble.
+//! The setting for hints, which explain the faults of an input after the error message.
 
 ghost use Rattle.std.specs.Prelude.{◌≡◌, ◌≢◌, [], ◌∷◌, IfErr, IfOk, IfSome, None, Some, codes};
 ghost use Rattle.command_line.specs.declared.hints.Hints.{Hints};
@@ -11,10 +11,10 @@ use crate::fault::Fault;
 use crate::values::value_in;
 use clap::ArgMatches;
 
-/// When hints are given.
+/// The setting for when hints are printed.
 #[derive(Clone, Copy, PartialEq, Eq)]
 pub enum Hints {
-    /// Where standard error is a terminal.
+    /// If standard error is a terminal.
     Auto,
     /// Always.
     Always,
@@ -23,7 +23,7 @@ pub enum Hints {
 }
 
 impl Hints {
-    /// Whether they are given, by whether standard error is a terminal.
+    /// Returns whether hints are printed, given whether standard error is a terminal.
     pub fn are_told(self, is_terminal: bool) -> bool
         ensures { result ≡ are_told self is_terminal }
     {
@@ -35,7 +35,7 @@ impl Hints {
     }
 }
 
-/// When hints are given, as a word says.
+/// Parses the word for when hints are printed.
 fn hints_of(word: &str) -> Option<Hints>
     ensures some { IfSome result (λ hints. word.now ≡ hints_word hints) }
     ensures none { result ≡ None → (hints : Hints) → word.now ≢ hints_word hints }
@@ -52,7 +52,7 @@ fn hints_of(word: &str) -> Option<Hints>
     None
 }
 
-/// The value of `--hints`.
+/// Returns the value of `--hints`.
 pub(crate) fn hints_in<'a>(given: &ArgMatches<'a>) -> Result<Hints, Fault<'a>>
     ensures value { IfOk result (λ hints.
         values_of given.now (codes "hints") ≡ Some (hints_word hints)) }

@@ -1,4 +1,4 @@
-//! The layout of an enclave, as a command line gives it.
+//! The layout of an enclave, from the command line.
 
 ghost use Rattle.std.specs.Prelude.{◌≡◌, [], ◌∷◌, IfErr, IfOk};
 ghost use Rattle.command_line.specs.Faults.{of_layout, IsFirst};
@@ -12,7 +12,7 @@ use clap::ArgMatches;
 use measurement::{Create, Layout};
 use text_lines::number;
 
-/// The value of an option that takes a number.
+/// Returns the value of a numeric option.
 fn number_in<'a>(given: &ArgMatches<'a>, option: &'a str) -> Result<u64, Fault<'a>>
     ensures value { IfOk result (IsNumber (values_of given.now option.entry.now)) }
     ensures fault { IfErr result (IsFirst (values_of given.now) (flags_of given.now)
@@ -25,7 +25,7 @@ fn number_in<'a>(given: &ArgMatches<'a>, option: &'a str) -> Result<u64, Fault<'
     }
 }
 
-/// An enclave of that layout with its pages from address 0 on.
+/// Returns an enclave with this layout whose pages begin at address 0.
 fn at_zero(layout: &Layout) -> Create
     ensures { result ≡ at_zero layout.now }
 {
@@ -39,7 +39,7 @@ fn at_zero(layout: &Layout) -> Create
     }
 }
 
-/// The layout that `--text`, `--data`, `--shared` and `--entry` give.
+/// Returns the layout from `--text`, `--data`, `--shared` and `--entry`.
 fn numbers_in<'a>(given: &ArgMatches<'a>) -> Result<Layout, Fault<'a>>
     ensures layout { IfOk result (IsLaidOut (values_of given.now)) }
     ensures fault { IfErr result (IsFirst (values_of given.now) (flags_of given.now) of_layout) }
@@ -56,7 +56,7 @@ fn numbers_in<'a>(given: &ArgMatches<'a>) -> Result<Layout, Fault<'a>>
     })
 }
 
-/// The layout that `--text`, `--data`, `--shared` and `--entry` give, which an enclave can have.
+/// Returns the layout from `--text`, `--data`, `--shared` and `--entry`, which must be possible for an enclave.
 pub(crate) fn layout_in<'a>(given: &ArgMatches<'a>) -> Result<Layout, Fault<'a>>
     ensures layout { IfOk result (IsLaidOut (values_of given.now)) }
     ensures enclave { IfOk result IsEnclave }

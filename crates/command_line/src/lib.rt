@@ -1,10 +1,11 @@
-//! The program's command line: what its words ask for.
+//! Parses the program's command line into a task and its options.
 //!
-//! A [`Task`] is one command with the names of its files, and [`Options`] say how it is done: in which format, for which width of
-//! registers, when [`Hints`] are given. A [`Request`] is both. For the layer above: [`request_of_words`] answers the request that the
-//! words of a command line name, as `clap` reads them by the program's table of subcommands; an error is `clap`'s, with its text and
-//! its kind, and [`error_with_usage`] makes one of a [`Fault`]. [`outline_of`] is the table of what each task reads and writes, and
-//! [`first_of`], [`second_of`] and [`cert_of`] have each place as an [`InputName`].
+//! A [`Task`] is one command with the names of its files, and [`Options`] control its execution, such as the format,
+//! the width of registers, and the use of [`Hints`]. A [`Request`] is both. For the layer above: [`request_of_words`]
+//! returns the request that the words of a command line name, parsed by `clap` with the program's table of subcommands;
+//! an error is `clap`'s, with its text and its kind, and [`error_with_usage`] converts a [`Fault`] to one.
+//! [`outline_of`] is the table of the inputs and outputs of each task, and [`first_of`], [`second_of`] and [`cert_of`]
+//! return each file as an [`InputName`].
 //!
 //! ```rust
 //! let request = request_of_words(rt.alloc(), &["pmpmon", "plan", "map.txt"])?;

@@ -1,4 +1,4 @@
-//! Where a platform's monitor is, as a command line gives it.
+//! The range of a platform's monitor, from the command line.
 
 ghost use Rattle.std.specs.Prelude.{◌≡◌, ◌↔◌, true, IfErr, IfOk};
 ghost use Rattle.command_line.specs.Faults.{of_monitor, IsFirst};
@@ -11,13 +11,13 @@ use clap::ArgMatches;
 use pmp_encoding::PAGE_SIZE;
 use text_lines::number;
 
-/// How many bytes the physical space has.
+/// Size of the physical address space in bytes.
 const SPACE: u64 = 1 << 56;
 
-/// The name of the size among the two values of `--monitor`: the base has that of the option.
+/// The name of the size, the second value of `--monitor`. The base has the name of the option.
 pub const SIZE_NAME: &str = "SIZE";
 
-/// Whether bytes from a base on are whole pages of the space, one at least.
+/// Returns whether bytes from a base on are whole pages of the space, at least one.
 fn are_whole_pages(base: u64, size: u64) -> bool
     ensures { (result ≡ true) ↔ AreWholePages base size }
 {
@@ -28,7 +28,7 @@ fn are_whole_pages(base: u64, size: u64) -> bool
         && size <= SPACE - base
 }
 
-/// The base and the size that `--monitor` gives, where it is given.
+/// Returns the base and the size from `--monitor`, if it is given.
 pub(crate) fn monitor_in<'a>(given: &ArgMatches<'a>) -> Result<Option<(u64, u64)>, Fault<'a>>
     ensures monitor { IfOk result (IsMonitor (values_of given.now)) }
     ensures pages { IfOk result IsOfPages }

@@ -1,4 +1,4 @@
-//! How a task is done: what goes with it on a command line.
+//! Options of a task on the command line.
 
 ghost use Rattle.std.specs.Prelude.{◌≡◌};
 ghost use Rattle.command_line.specs.Options.{default_options};
@@ -7,7 +7,7 @@ use crate::hints::Hints;
 use pmp_encoding::Xlen;
 use pmp_match::Mode;
 
-/// How a plan is printed.
+/// The format of a plan.
 #[derive(Clone, Copy, PartialEq, Eq)]
 pub enum Format {
     /// A line for each entry, and the configuration words after them.
@@ -20,7 +20,7 @@ pub enum Format {
     Json,
 }
 
-/// How a table is printed.
+/// The format of a table.
 #[derive(Clone, Copy, PartialEq, Eq)]
 pub enum TableFormat {
     /// A row for each stretch.
@@ -31,21 +31,21 @@ pub enum TableFormat {
     Json,
 }
 
-/// What is written of the answers to a trace.
+/// The kind of answers to a trace.
 #[derive(Clone, Copy, PartialEq, Eq)]
 pub enum Answers {
     /// The answers alone.
     Plain,
-    /// The answers, and after each what decided it or what happened.
+    /// The answers, each followed by the entry that decided it or an explanation of the event.
     Explained,
-    /// The answers, compared with those that the comments of the trace say.
+    /// The answers, compared with those expected in the comments of the trace.
     Compared,
 }
 
-/// What a file that is linted should be.
+/// The kind of a file to lint.
 #[derive(Clone, Copy, PartialEq, Eq)]
 pub enum LintKind {
-    /// What its name says: a platform where it ends in `.toml`, otherwise a map.
+    /// According to its name: a platform if it ends in `.toml`, otherwise a map.
     ByName,
     /// A listing of registers.
     Registers,
@@ -53,39 +53,40 @@ pub enum LintKind {
     Trace,
 }
 
-/// How a task is done. Each task goes by those of its own subcommand, and by no others.
+/// The options of a task. Each task uses only those of its own subcommand.
 #[derive(Clone, Copy, PartialEq, Eq)]
 pub struct Options<'a> {
-    /// How a plan is printed.
+    /// The format of a plan.
     pub format: Format,
-    /// The C identifier that names in C and assembly begin with, where one is given.
+    /// The C identifier that is the prefix of names in C and assembly, if one is given.
     pub name: Option<&'a str>,
-    /// The number of the register file's entry that a plan begins at.
+    /// The number of the hart's entry at which a plan begins.
     pub first: u8,
-    /// How many entries a plan may have, where that is asked for.
+    /// The maximum number of entries of a plan, if one is requested.
     pub at_most: Option<u64>,
-    /// How many bits the hart's registers have.
+    /// The width of the hart's registers.
     pub xlen: Xlen,
-    /// The mode that is asked what it may do by registers.
+    /// The mode whose permissions the registers determine.
     pub mode: Mode,
-    /// Whether the file that a task names as a map is a listing of registers.
+    /// True if the file that a task names as a map is a listing of registers.
     pub registers: bool,
-    /// What is written of the answers to a trace.
+    /// The kind of answers to a trace.
     pub answers: Answers,
-    /// Whether `audit` reports each stretch that differs, or the first alone.
+    /// True if `audit` reports each stretch that differs, instead of only the first.
     pub all: bool,
-    /// What a file that is linted should be.
+    /// The kind of a file to lint.
     pub kind: LintKind,
-    /// How a table is printed.
+    /// The format of a table.
     pub table: TableFormat,
-    /// Whether the text of a map's table is followed by how many entries the map needs without each of its lines.
+    /// True if the text of a map's table is followed by the number of entries that the map needs without each of its
+    /// lines.
     pub costs: bool,
-    /// When to say on standard error what is wrong with an input.
+    /// The setting for hints on standard error.
     pub hints: Hints,
 }
 
 impl Default for Options<'_> {
-    /// Those of a command line that names none.
+    /// Returns the default options.
     fn default() -> Self
         ensures { result ≡ default_options }
     {

@@ -1,4 +1,4 @@
-//! What a task reads and writes, by name.
+//! The input and output files of a task, by name.
 
 ghost use Rattle.std.specs.Prelude.{◌≡◌, ◌↔◌, true};
 ghost use Rattle.command_line.specs.Places.{cert_of, first_of, place_of, second_of, ReadsTwice};
@@ -9,16 +9,16 @@ use crate::task::outline_of;
 /// The word for standard input.
 const STANDARD_INPUT: &str = "-";
 
-/// Where an input comes from.
+/// The source of an input.
 #[derive(Clone, Copy)]
 pub enum InputName<'a> {
     /// Standard input.
     StandardInput,
-    /// The file of that name.
+    /// The file with this name.
     File(&'a str),
 }
 
-/// The file of that name, or standard input under its word.
+/// Returns the file with this name, or standard input for the word `-`.
 fn place_of(name: &str) -> InputName<'_>
     ensures { result ≡ place_of name.entry }
 {
@@ -28,14 +28,14 @@ fn place_of(name: &str) -> InputName<'_>
     InputName::File(name)
 }
 
-/// What a task reads first.
+/// Returns the first input of a task.
 pub fn first_of<'a>(task: &Task<'a>) -> InputName<'a>
     ensures { result ≡ first_of task.now }
 {
     place_of(outline_of(task).first)
 }
 
-/// What a task reads after that, where it does.
+/// Returns the second input of a task, if it has one.
 pub fn second_of<'a>(task: &Task<'a>) -> Option<InputName<'a>>
     ensures { result ≡ second_of task.now }
 {
@@ -45,7 +45,7 @@ pub fn second_of<'a>(task: &Task<'a>) -> Option<InputName<'a>>
     }
 }
 
-/// Whether a task would read standard input twice.
+/// Returns whether a task would read standard input twice.
 pub fn reads_twice(task: &Task<'_>) -> bool
     ensures { (result ≡ true) ↔ ReadsTwice task.now }
 {
@@ -55,7 +55,7 @@ pub fn reads_twice(task: &Task<'_>) -> bool
     )
 }
 
-/// The file of the certificate that a task writes, where it writes one.
+/// Returns the name of the certificate file that a task writes, if it writes one.
 pub fn cert_of<'a>(task: &Task<'a>) -> Option<&'a str>
     ensures { result ≡ cert_of task.now }
 {

@@ -1,4 +1,4 @@
-//! What a command line asks for: a task, and how it is done.
+//! The request of a command line: a task with its options.
 
 ghost use Rattle.std.specs.Prelude.{◌≡◌, IfErr, IfOk};
 ghost use Rattle.command_line.specs.Requests.{alone, HasRequest, IsFaultOfRequest, NamesNoRequest};
@@ -15,17 +15,17 @@ use crate::task::{Subcommand, Task};
 use crate::tasks::task_in;
 use clap::ArgMatches;
 
-/// A task, and how it is done.
+/// A task with its options.
 #[derive(Clone, Copy)]
 pub struct Request<'a> {
-    /// What is done.
+    /// The task.
     pub task: Task<'a>,
-    /// How it is done.
+    /// The options.
     pub options: Options<'a>,
 }
 
 impl<'a> Request<'a> {
-    /// A task with the options of a command line that names none.
+    /// Returns a task with default options.
     pub fn alone(task: Task<'a>) -> Request<'a>
         ensures { result ≡ alone task.entry }
     {
@@ -36,8 +36,7 @@ impl<'a> Request<'a> {
     }
 }
 
-/// The request of the subcommand that was entered, and a fault only where no request for a sound task is that subcommand with its
-/// values.
+/// Returns the request of the entered subcommand, or a fault iff its values form no sound request.
 pub(crate) fn request_in<'a>(matches: &ArgMatches<'a>) -> Result<Request<'a>, Fault<'a>>
     ensures request { IfOk result (IsRequest (subcommand_rows_of matches.now)) }
     ensures sound { IfOk result (λ request. IsSound request.task request.options) }
@@ -50,8 +49,7 @@ pub(crate) fn request_in<'a>(matches: &ArgMatches<'a>) -> Result<Request<'a>, Fa
     request_of(name, given)
 }
 
-/// The request that a subcommand with its values is, and a fault only where no request for a sound task is that subcommand with
-/// these values.
+/// Returns the request of a subcommand with its values, or a fault iff these form no sound request.
 fn request_of<'a>(name: &str, given: &ArgMatches<'a>) -> Result<Request<'a>, Fault<'a>>
     ensures word { IfOk result (λ request. word_of request.task ≡ name.now) }
     ensures values { IfOk result (HasRequest (values_of given.now) (flags_of given.now)) }

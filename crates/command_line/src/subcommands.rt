@@ -1,4 +1,4 @@
-//! The program's subcommands, as `clap` gets them.
+//! The program's subcommands, in the form that `clap` needs.
 
 ghost use Rattle.std.specs.Prelude.{IfOk};
 ghost use Rattle.clap.specs.Words.{new_app};
@@ -10,14 +10,14 @@ use crate::texts::{ABOUT, EXAMPLE, VERSION};
 use clap::Command;
 use std::alloc::{AllocError, Global};
 
-/// A command without arguments, with its texts for help.
+/// Returns a command without arguments, with its help texts.
 fn plain_command<'a>(alloc: Global, name: &'a str, about: &'a str, more: &'a str) -> Command<'a>
     ensures { IsCommandOf (new_app name.entry.now) result }
 {
     Command::new(alloc, name).about(about).after_help(more)
 }
 
-/// A command with its arguments and its texts for help.
+/// Returns a command with its arguments and its help texts.
 fn command<'a>(
     alloc: Global,
     name: &'a str,
@@ -35,7 +35,7 @@ fn command<'a>(
     Ok(command)
 }
 
-/// A subcommand as `clap` takes it.
+/// Returns a subcommand in the form that `clap` needs.
 fn subcommand_command<'a>(alloc: Global, subcommand: Subcommand) -> Result<Command<'a>, AllocError>
     ensures { IfOk result (IsCommandOf (app_by subcommand)) }
 {
@@ -43,7 +43,7 @@ fn subcommand_command<'a>(alloc: Global, subcommand: Subcommand) -> Result<Comma
     command(alloc, subcommand.name(), row.about, row.more, row.arguments)
 }
 
-/// The program without its subcommands, one of which has to be named.
+/// Returns the program without its subcommands, one of which is required.
 fn bare_program<'a>(alloc: Global) -> Command<'a>
     ensures { IsCommandOf bare_app result }
 {
@@ -52,7 +52,7 @@ fn bare_program<'a>(alloc: Global) -> Command<'a>
         .subcommand_required(true)
 }
 
-/// The program with its subcommands.
+/// Returns the program with its subcommands.
 pub fn program<'a>(alloc: Global) -> Result<Command<'a>, AllocError>
     ensures { IfOk result (IsCommandOf program_app) }
 {
@@ -63,7 +63,7 @@ pub fn program<'a>(alloc: Global) -> Result<Command<'a>, AllocError>
     Ok(program)
 }
 
-/// The subcommand of that name as the program calls it, and the program itself where it has none of that name.
+/// Returns the subcommand with this name, with its usage name, or the program itself if there is no such subcommand.
 pub fn subcommand_named<'a>(alloc: Global, name: &str) -> Result<Command<'a>, AllocError> {
     let Some(subcommand) = Subcommand::of(name) else {
         return program(alloc);

@@ -1,4 +1,4 @@
-//! What the program can be asked to do: each task, and the one table of their subcommands and files. A new task is added here first.
+//! The program's tasks, and the one table of their subcommands and files. A new task is added here first.
 
 ghost use Rattle.std.specs.Prelude.{◌≡◌, ◌≢◌, ◌↔◌, true, IfSome, None};
 ghost use Rattle.command_line.specs.declared.task.Subcommand.{Subcommand};
@@ -8,100 +8,100 @@ ghost use Rattle.command_line.specs.Subcommands.{subcommand_word, usage_words};
 use measurement::Layout;
 use pmp_encoding::Limit;
 
-/// One command of the program. The names of files are the words that were given.
+/// One command of the program. File names are the words of the command line.
 #[derive(Clone, Copy, PartialEq, Eq)]
 pub enum Task<'a> {
-    /// Boot a platform, run a trace on it, and report every answer.
+    /// Boots a platform, runs a trace on it, and reports every answer.
     Run {
         /// The platform file.
         platform: &'a str,
         /// The trace.
         trace: &'a str,
-        /// Whether the measurement of each live enclave is printed after the report.
+        /// True if the measurement of each live enclave is printed after the report.
         measure: bool,
     },
-    /// Plan a map, and write the certificate where a file for it is named.
+    /// Plans a map, and writes the certificate if a file for it is named.
     Plan {
         /// The map file.
         map: &'a str,
         /// The file that the certificate is written to.
         cert: Option<&'a str>,
-        /// How many entries the register file has.
+        /// The number of the hart's entries.
         limit: Limit,
     },
-    /// Load a map's entries, or take registers as they are, and judge the accesses of a trace by them.
+    /// Judges the accesses of a trace by a map's entries, or by given registers.
     Judge {
         /// The map file, or the listing of the registers.
         map: &'a str,
         /// The trace.
         trace: &'a str,
-        /// How many entries the register file has.
+        /// The number of the hart's entries.
         limit: Limit,
     },
-    /// Check a certificate against a map.
+    /// Checks a certificate against a map.
     Check {
         /// The map file.
         map: &'a str,
         /// The certificate.
         cert: &'a str,
     },
-    /// Say whether registers mean a map.
+    /// Reports whether registers mean a map.
     Audit {
         /// The map file.
         map: &'a str,
         /// The listing of the registers.
         registers: &'a str,
     },
-    /// Print the map that registers mean, or that of a board's device tree.
+    /// Prints the map that registers mean, or that of a board's device tree.
     Map {
         /// The listing of the registers, or the device tree.
         file: &'a str,
     },
-    /// Say what is wrong with a file, line by line.
+    /// Reports the faults of a file, line by line.
     Lint {
         /// The file.
         file: &'a str,
-        /// The platform file that says how many harts a trace is for.
+        /// The platform file with the number of harts for a trace.
         platform: Option<&'a str>,
     },
-    /// Print a map, or what registers mean, as a table of its stretches, each with the entry that decides it.
+    /// Prints a map, or the meaning of registers, as a table of stretches, each with the entry that decides it.
     Show {
         /// The map file, or the listing of the registers.
         map: &'a str,
-        /// How many entries the register file has.
+        /// The number of the hart's entries.
         limit: Limit,
     },
-    /// Tell the digest that the monitor measures of an enclave of a file's bytes.
+    /// Prints the digest that the monitor measures for an enclave with a file's bytes.
     Measure {
         /// The file of its text and data.
         file: &'a str,
-        /// What is measured beside its pages.
+        /// The numbers that are measured besides its pages.
         layout: Layout,
     },
-    /// Print the platform of a board's device tree.
+    /// Prints the platform of a board's device tree.
     Platform {
         /// The device tree.
         board: &'a str,
-        /// Where the monitor is, its base and its size in bytes, where that is given.
+        /// The base and the size of the monitor in bytes, if they are given.
         monitor: Option<(u64, u64)>,
     },
 }
 
-/// What a task is to all that does not do it: its subcommand and its files, by their names.
+/// An outline of a task for all code that does not perform it: its subcommand and the names of its files.
 #[derive(Clone, Copy)]
 pub struct TaskOutline<'a> {
-    /// The subcommand that it is.
+    /// The subcommand.
     pub subcommand: Subcommand,
-    /// What it reads first.
+    /// The first input.
     pub first: &'a str,
-    /// What it reads after that, where it does.
+    /// The second input, if there is one.
     pub second: Option<&'a str>,
-    /// The certificate that it writes, where it writes one.
+    /// The certificate file, if the task writes one.
     pub cert: Option<&'a str>,
 }
 
 impl<'a> TaskOutline<'a> {
-    /// One file that is read, and another after that where there is one.
+    /// Returns the outline of a task with one or two inputs and no certificate.
     fn reads(subcommand: Subcommand, first: &'a str, second: Option<&'a str>) -> TaskOutline<'a>
         ensures { result ≡ record {
           subcommand = subcommand;
@@ -119,7 +119,7 @@ impl<'a> TaskOutline<'a> {
     }
 }
 
-/// The outline of a task: the one table of what each is.
+/// Returns the outline of a task, from the one table of all tasks.
 pub fn outline_of<'a>(task: &Task<'a>) -> TaskOutline<'a>
     ensures { result ≡ outline_of task.now }
 {
@@ -153,7 +153,7 @@ pub fn outline_of<'a>(task: &Task<'a>) -> TaskOutline<'a>
 /// The name of a file that is not read or written.
 pub const NO_FILE: &str = "";
 
-/// The name of a file, where there is one, and otherwise that of none.
+/// Returns the name of a file, or `NO_FILE` if there is no file.
 pub fn name_or_none(name: Option<&str>) -> &str
     ensures { result.now ≡ name_or_none name.entry }
 {
@@ -185,7 +185,7 @@ pub enum Subcommand {
     Platform,
 }
 
-/// All of them, as the program's help lists them.
+/// All subcommands, in the order of the program's help.
 pub const SUBCOMMANDS: [Subcommand; 10] = [
     Subcommand::Run,
     Subcommand::Plan,
@@ -200,7 +200,7 @@ pub const SUBCOMMANDS: [Subcommand; 10] = [
 ];
 
 impl Subcommand {
-    /// The word that names it.
+    /// Returns the word that names it.
     pub fn name(self) -> &'static str
         ensures { result.now ≡ subcommand_word self }
     {
@@ -218,7 +218,7 @@ impl Subcommand {
         }
     }
 
-    /// The words by which a user enters it, for its usage.
+    /// Returns the words with which a user enters it, for its usage.
     pub fn usage_name(self) -> &'static str
         ensures { result.now ≡ usage_words self }
     {
@@ -236,14 +236,14 @@ impl Subcommand {
         }
     }
 
-    /// Whether a word names it.
+    /// Returns whether a word names it.
     fn is_named(self, word: &str) -> bool
         ensures { (result ≡ true) ↔ (word.now ≡ subcommand_word self) }
     {
         word == self.name()
     }
 
-    /// The one that a word names.
+    /// Returns the subcommand that a word names.
     pub fn of(word: &str) -> Option<Subcommand>
         ensures some { IfSome result (λ subcommand. word.now ≡ subcommand_word subcommand) }
         ensures none { result ≡ None → (subcommand : Subcommand)

@@ -1,4 +1,4 @@
-//! The task that a subcommand with its values is, and how it is done.
+//! The task of a subcommand with its values, and its options.
 
 ghost use Rattle.std.specs.Prelude.{◌≡◌, ◌≢◌, ◌<◌, ◌↔◌, ◌⊎◌, [], ◌∷◌, IfErr, IfOk, Option, None, Some, codes, true, option_map};
 ghost use Rattle.pmp_match.specs.declared.access.Mode as Mode;
@@ -24,7 +24,7 @@ use pmp_match::Mode;
 /// The word for standard input.
 const INPUT: &str = "-";
 
-/// Whether a word means standard input.
+/// Returns whether a word means standard input.
 fn is_input(word: &str) -> bool
     ensures { (result ≡ true) ↔ (word.now ≡ input_word) }
 {
@@ -50,7 +50,7 @@ fn run_in<'a>(given: &ArgMatches<'a>, base: Options<'a>) -> Result<Request<'a>, 
     Ok(Request { task, options })
 }
 
-/// The file for the certificate of a map, where one is named, which may not be the map's.
+/// Returns the file for the certificate of a map, if one is named, which must differ from the map.
 fn cert_in<'a>(given: &ArgMatches<'a>, map: &'a str) -> Result<Option<&'a str>, Fault<'a>>
     ensures value { IfOk result (λ cert. values_of given.now (codes "CERT") ≡ option_map (λ s.
         s.now) cert) }
@@ -95,7 +95,7 @@ fn plan_in<'a>(given: &ArgMatches<'a>, base: Options<'a>) -> Result<Request<'a>,
     Ok(Request { task, options })
 }
 
-/// Refuses two files that are both standard input.
+/// Rejects two files that are both standard input.
 fn once<'a>(map: &str, other: &str) -> Result<(), Fault<'a>>
     ensures once { IfOk result (λ _. (map.now ≡ input_word) × (other.now ≡ input_word)
         → ⊥) }
@@ -108,7 +108,7 @@ fn once<'a>(map: &str, other: &str) -> Result<(), Fault<'a>>
     Ok(())
 }
 
-/// What is written of the answers to a trace.
+/// Returns the kind of answers to a trace.
 fn answers_in<'a>(given: &ArgMatches<'a>) -> Result<Answers, Fault<'a>>
     ensures answers { IfOk result (HasAnswers (flags_of given.now)) }
     ensures fault { IfErr result (Breaks (values_of given.now) (flags_of given.now) one_answer) }
@@ -165,7 +165,7 @@ fn check_in<'a>(given: &ArgMatches<'a>, base: Options<'a>) -> Result<Request<'a>
     })
 }
 
-/// Refuses another table of registers than the text.
+/// Rejects a table of registers in another format than text.
 fn of_map<'a>(format: TableFormat, registers: bool) -> Result<(), Fault<'a>>
     ensures is { IfOk result (λ _. IsOfMap registers format) }
     ensures none { IfErr result (λ _. (registers ≡ true) × (format ≢ TableFormat.Text)) }
@@ -177,7 +177,7 @@ fn of_map<'a>(format: TableFormat, registers: bool) -> Result<(), Fault<'a>>
     Ok(())
 }
 
-/// Refuses costs of what is no text of a map.
+/// Rejects costs without the text of a map.
 fn of_text<'a>(format: TableFormat, registers: bool, costs: bool) -> Result<(), Fault<'a>>
     ensures is { IfOk result (λ _. IsOfText registers format costs) }
     ensures none { IfErr result (λ _. (costs ≡ true)
@@ -190,7 +190,7 @@ fn of_text<'a>(format: TableFormat, registers: bool, costs: bool) -> Result<(), 
     Ok(())
 }
 
-/// Refuses machine mode by the entries of a map.
+/// Rejects machine mode for the entries of a map.
 fn of_registers<'a>(registers: bool, mode: Mode) -> Result<(), Fault<'a>>
     ensures is { IfOk result (λ _. IsOfRegisters registers mode) }
     ensures none { IfErr result (λ _. (mode ≡ Mode.Machine) × (registers ≢ true)) }
@@ -268,7 +268,7 @@ fn map_in<'a>(given: &ArgMatches<'a>, base: Options<'a>) -> Result<Request<'a>, 
     Ok(Request { task, options })
 }
 
-/// What a file that is linted should be.
+/// Returns the kind of a file to lint.
 fn kind_in<'a>(given: &ArgMatches<'a>) -> Result<LintKind, Fault<'a>>
     ensures kind { IfOk result (HasKind (values_of given.now) (flags_of given.now)) }
     ensures fault { IfErr result (IsFirst (values_of given.now) (flags_of given.now)
@@ -337,7 +337,7 @@ fn platform_in<'a>(given: &ArgMatches<'a>, base: Options<'a>) -> Result<Request<
     })
 }
 
-/// The task of a subcommand with its values, and how it is done: as its values say, and otherwise as `base` does.
+/// Returns the task of a subcommand with its values, and its options: those given, otherwise those of `base`.
 pub(crate) fn task_in<'a>(
     subcommand: Subcommand,
     given: &ArgMatches<'a>,

@@ -1,4 +1,4 @@
-//! The errors of `clap` for words that it takes and that name no task, with the usage of their subcommand.
+//! `clap` errors, with the usage of the subcommand, for words that are well-formed but name no task.
 
 ghost use Rattle.std.specs.Prelude.{IfOk};
 ghost use Rattle.clap.specs.Words.{kind_of};
@@ -8,12 +8,33 @@ use crate::fault::Fault;
 use crate::subcommands::subcommand_named;
 use clap::Error;
 use std::alloc::{AllocError, Global};
+use text_lines::numeral;
 
-/// The error of a fault, with the usage of the subcommand of that name.
+/// Returns the requested number of entries, if no hart has that many and the subcommand can bound a plan by it.
+fn bound<'a>(name: &str, fault: &Fault<'a>) -> Option<&'a str> {
+    match *fault {
+        Fault::Entries(word) if name == "plan" || name == "show" => {
+            let _count = numeral(word.as_bytes(), 10)?;
+            if word.starts_with('0') {
+                return None;
+            }
+            Some(word)
+        }
+        _ => None,
+    }
+}
+
+/// Returns the error for a fault, with the usage of the subcommand with this name, and a tip if another option does what was
+/// meant.
 pub fn error_with_usage(alloc: Global, name: &str, fault: &Fault<'_>) -> Result<Error, AllocError>
     ensures { IfOk result (λ error. IsMistake (kind_of error)) }
 {
-    let text = format!(in alloc; "{fault}")?;
+    let text = match bound(name, fault) {
+        Some(word) => format!(in alloc;
+            "{fault}\n\n  tip: to refuse a map that needs more than {word} entries, use '--at-most {word}'"
+        )?,
+        None => format!(in alloc; "{fault}")?,
+    };
     let mut command = subcommand_named(alloc, name)?;
     command.error(fault.kind(), text.as_str())
 }

@@ -1,4 +1,4 @@
-//! What the arguments of a command line mean: a limit, a format, a bound, an entry, a name, a width, a mode.
+//! Parses the arguments of a command line: limits, formats, bounds, entries, names, widths and modes.
 
 ghost use Rattle.std.specs.Prelude.{◌≡◌, ◌≢◌, ◌<◌, ℕ, [], ◌∷◌, IfErr, IfOk, IfSome, Option, None, Some, codes, false, true, option_map};
 ghost use Rattle.std.specs.List.{list_all};
@@ -22,7 +22,7 @@ use pmp_encoding::{Limit, Xlen};
 use pmp_match::Mode;
 use text_lines::number;
 
-/// The limit that a word names.
+/// Returns the limit that a word names.
 fn limit_of(word: &str) -> Option<Limit>
     ensures some { IfSome result (λ limit. word.now ≡ limit_word limit) }
     ensures none { result ≡ None → (limit : Limit) → word.now ≢ limit_word limit }
@@ -36,7 +36,7 @@ fn limit_of(word: &str) -> Option<Limit>
     None
 }
 
-/// The format that a word names.
+/// Returns the format that a word names.
 fn format_of(word: &str) -> Option<Format>
     ensures some { IfSome result (λ format. word.now ≡ format_word format) }
     ensures none { result ≡ None → (format : Format) → word.now ≢ format_word format }
@@ -56,7 +56,7 @@ fn format_of(word: &str) -> Option<Format>
     None
 }
 
-/// The format of a table that a word names.
+/// Returns the format of a table that a word names.
 fn table_format_of(word: &str) -> Option<TableFormat>
     ensures some { IfSome result (λ format. word.now ≡ table_format_word format) }
     ensures none { result ≡ None → (format : TableFormat)
@@ -74,7 +74,7 @@ fn table_format_of(word: &str) -> Option<TableFormat>
     None
 }
 
-/// The width of registers that a word names.
+/// Returns the width of registers that a word names.
 fn width_of(word: &str) -> Option<Xlen>
     ensures some { IfSome result (λ xlen. word.now ≡ width_word xlen) }
     ensures none { result ≡ None → (xlen : Xlen) → word.now ≢ width_word xlen }
@@ -88,7 +88,7 @@ fn width_of(word: &str) -> Option<Xlen>
     None
 }
 
-/// The mode that a word names, as the events of a trace do.
+/// Returns the mode that a word names, as in the events of a trace.
 fn mode_of(word: &str) -> Option<Mode>
     ensures some { IfSome result (λ mode. word.now ≡ mode_word mode) }
     ensures none { result ≡ None → (mode : Mode) → word.now ≢ mode_word mode }
@@ -105,7 +105,7 @@ fn mode_of(word: &str) -> Option<Mode>
     None
 }
 
-/// The value of an argument that has to be there.
+/// Returns the value of a required argument.
 pub(crate) fn value_in<'a>(given: &ArgMatches<'a>, name: &str) -> Result<&'a str, Fault<'a>>
     ensures value { IfOk result (λ word. values_of given.now name.now ≡ Some word.now) }
     ensures missing { IfErr result (Breaks (values_of given.now) (flags_of given.now)
@@ -117,7 +117,7 @@ pub(crate) fn value_in<'a>(given: &ArgMatches<'a>, name: &str) -> Result<&'a str
     }
 }
 
-/// The value of `--entries`.
+/// Returns the value of `--entries`.
 pub(crate) fn limit_in<'a>(given: &ArgMatches<'a>) -> Result<Limit, Fault<'a>>
     ensures value { IfOk result (λ limit.
         values_of given.now (codes "entries") ≡ Some (limit_word limit)) }
@@ -131,7 +131,7 @@ pub(crate) fn limit_in<'a>(given: &ArgMatches<'a>) -> Result<Limit, Fault<'a>>
     }
 }
 
-/// The value of `--format`.
+/// Returns the value of `--format`.
 pub(crate) fn format_in<'a>(given: &ArgMatches<'a>) -> Result<Format, Fault<'a>>
     ensures value { IfOk result (λ format.
         values_of given.now (codes "format") ≡ Some (format_word format)) }
@@ -145,7 +145,7 @@ pub(crate) fn format_in<'a>(given: &ArgMatches<'a>) -> Result<Format, Fault<'a>>
     }
 }
 
-/// The value of `--format` of a table.
+/// Returns the value of `--format` for a table.
 pub(crate) fn table_format_in<'a>(given: &ArgMatches<'a>) -> Result<TableFormat, Fault<'a>>
     ensures value { IfOk result (λ format.
         values_of given.now (codes "format") ≡ Some (table_format_word format)) }
@@ -159,7 +159,7 @@ pub(crate) fn table_format_in<'a>(given: &ArgMatches<'a>) -> Result<TableFormat,
     }
 }
 
-/// The value of `--xlen`.
+/// Returns the value of `--xlen`.
 pub(crate) fn width_in<'a>(given: &ArgMatches<'a>) -> Result<Xlen, Fault<'a>>
     ensures value { IfOk result (λ xlen.
         values_of given.now (codes "xlen") ≡ Some (width_word xlen)) }
@@ -173,7 +173,7 @@ pub(crate) fn width_in<'a>(given: &ArgMatches<'a>) -> Result<Xlen, Fault<'a>>
     }
 }
 
-/// The value of `--mode`.
+/// Returns the value of `--mode`.
 pub(crate) fn mode_in<'a>(given: &ArgMatches<'a>) -> Result<Mode, Fault<'a>>
     ensures value { IfOk result (λ mode.
         values_of given.now (codes "mode") ≡ Some (mode_word mode)) }
@@ -187,7 +187,7 @@ pub(crate) fn mode_in<'a>(given: &ArgMatches<'a>) -> Result<Mode, Fault<'a>>
     }
 }
 
-/// The value of `--at-most`, where it is given.
+/// Returns the value of `--at-most`, if it is given.
 pub(crate) fn at_most_in<'a>(given: &ArgMatches<'a>) -> Result<Option<u64>, Fault<'a>>
     ensures value { IfOk result (Counts (values_of given.now (codes "at-most"))) }
     ensures fault { IfErr result (Breaks (values_of given.now) (flags_of given.now) counts) }
@@ -203,7 +203,7 @@ pub(crate) fn at_most_in<'a>(given: &ArgMatches<'a>) -> Result<Option<u64>, Faul
     }
 }
 
-/// The number of the entry that a word names.
+/// Parses the number of an entry below the limit.
 fn entry_of(word: &str, limit: Limit) -> Option<u8>
     ensures some { IfSome result (λ entry. (number_of word.now ≡ Some entry)
         × (entry < limit_number limit)) }
@@ -218,7 +218,7 @@ fn entry_of(word: &str, limit: Limit) -> Option<u8>
     }
 }
 
-/// The value of `--first`, an entry of a hart of that limit: entry 0 where it is not given.
+/// Returns the value of `--first`, an entry of a hart with this limit, or entry 0 by default.
 pub(crate) fn first_in<'a>(given: &ArgMatches<'a>, limit: Limit) -> Result<u8, Fault<'a>>
     requires limit { values_of given.now (codes "entries") ≡ Some (limit_word limit) }
     ensures value { IfOk result (BeginsAt (values_of given.now (codes "first"))) }
@@ -252,7 +252,7 @@ fn are_letters_or_digits(bytes: &[u8]) -> bool
     bytes.iter().all(|byte| is_letter_or_digit(*byte))
 }
 
-/// Whether a word is an identifier of C, of at most 32 bytes.
+/// Returns whether a word is a C identifier of at most 32 bytes.
 fn is_identifier(word: &[u8]) -> bool
     ensures { result ≡ is_identifier word.now }
 {
@@ -262,7 +262,7 @@ fn is_identifier(word: &[u8]) -> bool
     is_letter(*first) && are_letters_or_digits(rest) && rest.len() < 32
 }
 
-/// The value of `--name`, where it is given.
+/// Returns the value of `--name`, if it is given.
 pub(crate) fn name_in<'a>(given: &ArgMatches<'a>) -> Result<Option<&'a str>, Fault<'a>>
     ensures value { IfOk result (λ name. values_of given.now (codes "name") ≡ option_map (λ s.
         s.now) name) }

@@ -1,4 +1,4 @@
-//! What the words of a command line ask for.
+//! The request of the words of a command line.
 
 ghost use Rattle.std.specs.Prelude.{◌≡◌, IfErr, IfOk, [], map};
 ghost use Rattle.clap.specs.Words.{fault_of, kind_of, subcommand_of};
@@ -11,10 +11,10 @@ use crate::usage::error_with_usage;
 use clap::Error;
 use std::alloc::Global;
 
-/// The task that the words of a command line name, and how it is done; the first word is the program's own.
+/// Returns the task that the words of a command line name, with its options; the first word is the program's name.
 ///
-/// An error is a fault of the command line, out of memory, or a wish for help or the version: its `kind`
-/// says which, and its `Display` is the text for the user.
+/// The error is a fault of the command line, a failed allocation, or a request for help or the version: its `kind`
+/// distinguishes these, and its `Display` is the text for the user.
 pub fn request_of_words<'a>(alloc: Global, words: &'a [&'a str]) -> Result<Request<'a>, Error>
     ensures request { IfOk result (IsRequest (subcommand_of program_app
         (map (λ s. s.now) words.entry.now))) }

@@ -12,15 +12,15 @@ use Rattle.context_switch.specs.contracts.hart.Hart as hart
 abbrev pub number_of : Hart → ℕ
 number_of hart = hart.number
 
--- the world that runs
+-- the world that runs on a hart
 abbrev pub world_of : Hart → World
 world_of hart = hart.world
 
--- its registers, which are loaded
+-- the registers of the running world
 abbrev pub registers_of : Hart → RegisterFile
 registers_of hart = hart.registers
 
--- the PMP registers that are loaded
+-- the loaded PMP registers
 abbrev pub bank_of : Hart → Bank
 bank_of hart = hart.bank
 
@@ -28,7 +28,7 @@ bank_of hart = hart.bank
 abbrev pub with_registers : Hart → RegisterFile → Hart
 with_registers hart file = record hart { registers = file }
 
--- r lends the hart's registers: what is last written through r they are, and all else of the hart
--- stays
+-- r borrows the hart's registers: they become what is last written through r, and the rest of the
+-- hart stays the same
 abbrev pub LendsRegisters : MutBor Hart → MutBor RegisterFile → Fml
 LendsRegisters lender r = Lends hart.the_row registers.the_row lender r (with_registers lender.now)

@@ -1,4 +1,4 @@
--- From one world to another on a hart.
+-- The switch from one world to another on a hart.
 use Rattle.std.specs.Prelude.{◌≡◌, ◌≢◌, Some}
 use Rattle.sbi_decode.specs.declared.world.World.{World}
 use Rattle.context_switch.specs.declared.hart.Hart.{Hart}
@@ -7,8 +7,8 @@ use Rattle.sbi_decode.specs.Runners.{Runner, runner_of}
 use Rattle.context_switch.specs.Contexts.{saved_of}
 use Rattle.context_switch.specs.Harts.{number_of, world_of, registers_of}
 
--- the hart leaves its world for another one: its registers are saved as those of the world that it
--- leaves, it goes on with those of the other, and every other set is as it was
+-- the hart switches to another world: its registers are saved as those of the world it leaves,
+-- those of the other are loaded, and every other set is unchanged
 pub record Switches (old new : Hart) (before after : Contexts) (to : World) : Type 0 where
   pub saved : saved_of after (runner_of (number_of old) (world_of old)) ≡ Some (registers_of old)
   pub loaded : saved_of after (runner_of (number_of old) to) ≡ Some (registers_of new)

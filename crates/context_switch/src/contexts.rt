@@ -17,7 +17,7 @@ impl Contexts {
     ghost use Rattle.sbi_decode.specs.Runners.{Runner, runner_of, IsWorld};
     ghost use Rattle.context_switch.specs.Contexts.{saved_of};
 
-    /// Every set zero.
+    /// Returns sets that are all zero.
     pub fn new() -> Contexts
         ensures saved { (hart : ℕ) (world : World) → hart ≤ 3 → IsWorld world
             → saved_of result (runner_of hart world) ≡ Some zeros }
@@ -31,7 +31,7 @@ impl Contexts {
         }
     }
 
-    /// Lends the registers of the host on this hart, a number at most 3, or of the enclave with an id from 1 to 64.
+    /// Borrows the registers of the host on this hart, numbered at most 3, or of the enclave with an id from 1 to 64.
     #[inline(always)]
     pub fn saved(&self, hart: u8, world: World) -> &Registers
         requires hart { hart ≤ 3 }
@@ -44,7 +44,7 @@ impl Contexts {
         }
     }
 
-    /// Copies the registers of the host on this hart, a number at most 3, or of the enclave with an id from 1 to 64.
+    /// Copies the registers of the host on this hart, numbered at most 3, or of the enclave with an id from 1 to 64.
     #[inline(always)]
     pub fn get(&self, hart: u8, world: World) -> Registers
         requires hart { hart ≤ 3 }
@@ -54,7 +54,7 @@ impl Contexts {
         *self.saved(hart, world)
     }
 
-    /// Sets the registers of the host on this hart, a number at most 3, or of the enclave with an id from 1 to 64.
+    /// Sets the registers of the host on this hart, numbered at most 3, or of the enclave with an id from 1 to 64.
     #[inline(always)]
     pub fn set(&mut self, hart: u8, world: World, registers: Registers)
         requires hart { hart ≤ 3 }

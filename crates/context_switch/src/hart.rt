@@ -6,7 +6,7 @@ ghost use Rattle.sbi_decode.specs.Runners.{IsWorld, IsWorld-prop};
 use pmp_encoding::{Bank, Entry, Limit};
 use sbi_decode::{Registers, World};
 
-/// One of up to four harts: the world that runs on it, and the registers and PMP entries that are loaded there.
+/// One of up to four harts: its world, and the registers and PMP entries loaded on it.
 #[derive(Clone, Copy)]
 pub struct Hart {
     number: u8,
@@ -26,7 +26,7 @@ impl Hart {
     ghost use Rattle.sbi_decode.specs.Runners.{IsWorld};
     ghost use Rattle.context_switch.specs.Harts.{number_of, world_of, registers_of, bank_of, LendsRegisters};
 
-    /// The hart of this number as at boot: in the host's world, its registers zero, these entries loaded.
+    /// Returns the hart with this number as at boot: in the host's world, with zero registers and these entries loaded.
     pub fn new(number: u8, entries: &[Entry], limit: Limit) -> Hart
         requires number { number ≤ 3 }
         requires entries { length entries.now ≤ limit_number limit }
@@ -44,7 +44,7 @@ impl Hart {
         }
     }
 
-    /// Its number, 0 to 3.
+    /// Returns the hart's number, 0 to 3.
     pub fn number(&self) -> u8
         ensures value { result ≡ number_of self.now }
         ensures most { result ≤ 3 }
@@ -52,7 +52,7 @@ impl Hart {
         self.number
     }
 
-    /// The world that runs on it: the host, or the enclave of an id from 1 to 64.
+    /// Returns the world that runs on the hart: the host, or the enclave with an id from 1 to 64.
     pub fn world(&self) -> World
         ensures value { result ≡ world_of self.now }
         ensures known { IsWorld result }
@@ -60,14 +60,14 @@ impl Hart {
         self.world
     }
 
-    /// The registers of the world that runs.
+    /// Returns the registers of the running world.
     pub fn registers(&self) -> &Registers
         ensures { result.now ≡ registers_of self.now }
     {
         &self.registers
     }
 
-    /// The registers of the world that runs, to be changed; nothing else of the hart changes with them.
+    /// Borrows the registers of the running world mutably; the rest of the hart stays the same.
     pub fn registers_mut(&mut self) -> &mut Registers
         ensures value { result.now ≡ registers_of self.old }
         ensures* writes_back { sem 𝓛 (LendsRegisters self.entry result) }
@@ -75,14 +75,14 @@ impl Hart {
         &mut self.registers
     }
 
-    /// The PMP entries that are loaded.
+    /// Returns the loaded PMP entries.
     pub fn bank(&self) -> &Bank
         ensures { result.now ≡ bank_of self.now }
     {
         &self.bank
     }
 
-    /// Loads entries, at most as many as the bank has places, and leaves all else of the hart.
+    /// Loads entries, at most as many as the bank can hold, and changes nothing else of the hart.
     pub fn load(&mut self, entries: &[Entry])
         requires { length entries.now ≤ limit_number (bank_of self.old).limit }
         ensures list { HasList (bank_of self.new) entries.now }
@@ -94,7 +94,7 @@ impl Hart {
         self.bank.load(entries);
     }
 
-    /// Puts that bank in place, and leaves all else of the hart.
+    /// Replaces the bank, and changes nothing else of the hart.
     pub fn put_bank(&mut self, bank: Bank)
         ensures bank { bank_of self.new ≡ bank }
         ensures number { number_of self.new ≡ number_of self.old }

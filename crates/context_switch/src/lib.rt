@@ -1,12 +1,12 @@
-//! Goes from one world to another on a hart: the registers, the world and the PMP entries change together.
+//! Switches worlds on a hart: the registers, the world and the PMP entries change together.
 //!
-//! A [`Hart`] runs a world, the host or an enclave, with the registers and the bank of entries that are loaded there.
-//! [`Contexts`] keeps the registers of each world that does not run: one set for the host of each of four harts, and
-//! one for each enclave, which is the same on whichever hart it goes on. Nothing here takes memory.
+//! A [`Hart`] runs a world, the host or an enclave, with its registers and its bank of entries loaded. [`Contexts`]
+//! stores the registers of the suspended worlds: one set for the host of each of four harts, and one for each enclave,
+//! which may resume on any hart. Nothing here allocates.
 //!
-//! The contract for the layer above: [`switch`] saves the hart's registers as those of the world that it leaves, loads
-//! those of the world it goes to, and touches no other set; then the hart's world is that one, and its bank is the one
-//! that the entries make, with the limit that it had. The hart keeps its number.
+//! Contract for the layer above: [`switch`] saves the hart's registers as those of the current world, loads those of
+//! the new world, and changes no other set. The hart then runs the new world, with the bank that the entries make and
+//! the limit that it had. The hart keeps its number.
 //!
 //! ```
 //! let mut hart = Hart::new(0, host_entries, Limit::Sixteen);

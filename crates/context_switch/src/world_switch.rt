@@ -12,9 +12,9 @@ use crate::hart::Hart;
 use pmp_encoding::Entry;
 use sbi_decode::World;
 
-/// Leaves the hart's world and goes to `to`, the host or an enclave with an id from 1 to 64: the hart's registers are
-/// saved as those of the world that it leaves, those of the other are loaded, and the entries, at most as many as the
-/// hart's bank has places, become its bank. It always succeeds.
+/// Switches the hart to the world `to`, the host or an enclave with an id from 1 to 64: saves the hart's registers as
+/// those of the current world, loads those of the new one, and loads the entries, at most as many as the hart's bank
+/// can hold. It always succeeds.
 pub fn switch(hart: &mut Hart, contexts: &mut Contexts, to: World, entries: &[Entry])
     requires world { IsWorld to }
     requires entries { length entries.now ≤ limit_number (bank_of hart.old).limit }

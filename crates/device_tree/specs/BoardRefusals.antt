@@ -1,4 +1,4 @@
--- Why a tree says no ranges: at which node, and what is wrong there.
+-- Reasons why a tree gives no ranges, and the nodes at which they occur.
 use Rattle.std.specs.Prelude.{◌≡◌, ◌⊎◌, ℕ, ◌+◌, ◌*◌, ◌^◌, ◌≤◌, ⊤}
 use Rattle.std.specs.Prelude.{List, [], ◌∷◌, ◌++◌, Option, None, Some, length, drop, codes, map}
 use Rattle.device_tree.specs.Pieces.{Part, Setting, has, ends, parts_of}
@@ -20,42 +20,43 @@ use Rattle.device_tree.specs.Windows.{Path, same, window_len}
 use Rattle.device_tree.specs.Properties.{value_in}
 use Rattle.device_tree.specs.Meaning.{AreCells, IsInnerWay, inner_place, live_kind, path_or}
 
--- the bytes are no whole number of rows of that many bytes each
+-- the length of the bytes is not a multiple of `len`
 abbrev pub IsUneven : ℕ → List ℕ → Type 0
 IsUneven len bytes = (rows : ℕ) → length bytes ≡ rows * len → ⊥
 
--- one of the rows of that many bytes is so
+-- one of the rows of `len` bytes has this property
 pub record HasRow (len : ℕ) (bytes : List ℕ) (IsSo : List ℕ → Type 0) : Type 0 where
   pub before : ℕ
   pub inside : before * len + len ≤ length bytes
   pub so : IsSo (drop (before * len) bytes)
 
--- the address or the size in front has more than 64 bits
+-- the address or the size at the front does not fit in 64 bits
 abbrev pub IsLargeRow : Cells → List ℕ → Type 0
 IsLargeRow cells bytes = (2 ^ 64 ≤ number_of cells.address bytes)
     ⊎ (2 ^ 64 ≤ number_of cells.size (drop (4 * cells.address) bytes))
 
--- why bytes are no rows of an address and a size. Of memory and of too many nothing is said
+-- the reason why bytes are not rows of an address and a size. Failed allocations and too many
+-- ranges have no condition
 abbrev pub IsRowFault : Cells → List ℕ → RowFault → Type 0
 IsRowFault cells bytes BadLength = IsUneven (row_len cells) bytes
 IsRowFault cells bytes LargeNumber = HasRow (row_len cells) bytes (IsLargeRow cells)
 IsRowFault cells bytes rows.TooMany = ⊤
 IsRowFault cells bytes rows.Memory = ⊤
 
--- a fault of which nothing is said
+-- a fault without a condition
 abbrev pub IsRefusal : RowFault → Type 0
 IsRefusal BadLength = ⊥
 IsRefusal LargeNumber = ⊥
 IsRefusal rows.TooMany = ⊤
 IsRefusal rows.Memory = ⊤
 
--- one of the numbers of a row of `ranges` in front has more than 64 bits
+-- one of the numbers of the first row of `ranges` does not fit in 64 bits
 abbrev pub IsLargeWindow : Cells → ℕ → List ℕ → Type 0
 IsLargeWindow cells outer bytes = (2 ^ 64 ≤ number_of cells.address bytes)
     ⊎ ((2 ^ 64 ≤ number_of outer (drop (4 * cells.address) bytes))
     ⊎ (2 ^ 64 ≤ number_of cells.size (drop (4 * (cells.address + outer)) bytes)))
 
--- why bytes are no rows of `ranges`
+-- the reason why bytes are not rows of `ranges`
 abbrev pub IsWindowFault : Cells → ℕ → List ℕ → RowFault → Type 0
 IsWindowFault cells outer bytes BadLength = IsUneven (window_len cells outer) bytes
 IsWindowFault cells outer bytes LargeNumber =
@@ -63,29 +64,29 @@ IsWindowFault cells outer bytes LargeNumber =
 IsWindowFault cells outer bytes rows.TooMany = ⊥
 IsWindowFault cells outer bytes rows.Memory = ⊤
 
--- the registers of a node count, and its `reg` has no rows
+-- the registers of a node are used, and the rows of its `reg` are invalid
 abbrev pub IsOwnFault : Option Kind → Option (List ℕ) → Cells → RowFault → Type 0
 IsOwnFault None reg cells fault = ⊥
 IsOwnFault (Some kind) None cells fault = ⊥
 IsOwnFault (Some kind) (Some reg) cells fault = IsRowFault cells reg fault
 
--- a `ranges` has no rows. An empty one lacks memory alone
+-- the rows of a `ranges` are invalid. An empty one fails only if an allocation fails
 abbrev pub IsPassFault : List ℕ → Cells → ℕ → RowFault → Type 0
 IsPassFault [] inner outer fault = fault ≡ rows.Memory
 IsPassFault (byte ∷ bytes) inner outer fault = IsWindowFault inner outer (byte ∷ bytes) fault
 
--- the addresses of its children have at most two cells, and its `ranges` has no rows
+-- child addresses have at most two cells, and the rows of `ranges` are invalid
 abbrev pub IsWayFault : Option (List ℕ) → Cells → ℕ → RowFault → Type 0
 IsWayFault None inner outer fault = ⊥
 IsWayFault (Some bytes) inner outer fault = (inner.address ≤ 2)
     × IsPassFault bytes inner outer fault
 
--- its cells are no numbers from 0 to 4
+-- the cells are not numbers from 0 to 4
 abbrev pub HasNoCells : List Part → Type 0
 HasNoCells properties = (cells : Cells) → AreCells properties cells → ⊥
 
--- what is wrong with a node that has these properties, on a bus with these cells: its registers,
--- its cells, or how the addresses of its children come to the root
+-- the fault of a node with these properties, on a bus with these cells: its registers, its cells,
+-- or the translation of its children's addresses
 pub data IsNodeFault (place : Place) (cells : Cells) (properties : List Part) : BoardReason
     → Type 0 where
   of_registers : (fault : RowFault)
@@ -96,8 +97,8 @@ pub data IsNodeFault (place : Place) (cells : Cells) (properties : List Part) : 
       → IsWayFault (value_in (codes "ranges") properties) inner cells.address fault
       → IsNodeFault place cells properties (BadRows fault)
 
--- nodes on a bus with these cells, whose addresses the root has in this way, say no ranges for
--- this reason, which one of them has: that from which on their parts are these
+-- nodes on a bus with these cells and this translation to the root give no ranges, because of the
+-- node at which these parts begin
 pub data SayNone : Place → Cells → Path → Nodes → List Part → BoardReason → Type 0 where
   at_node : {place : Place} {cells : Cells} {way : Path} {name : List ℕ} {properties : List Setting}
       {children later : Nodes} (reason : BoardReason)
@@ -118,7 +119,7 @@ pub data SayNone : Place → Cells → Path → Nodes → List Part → BoardRea
       (reason : BoardReason) → SayNone place cells way later from reason
       → SayNone place cells way (node name properties children later) from reason
 
--- a tree says no ranges for this reason, which its root has or a node below it
+-- a tree gives no ranges for this reason, at its root or at a node below it
 pub data TreeSaysNone (tree : Tree) : List Part → BoardReason → Type 0 where
   at_root : HasNoCells (map has tree.properties) → TreeSaysNone tree (parts_of_tree tree) BadCells
   below_root : (cells : Cells) (from : List Part) (reason : BoardReason)
@@ -126,11 +127,11 @@ pub data TreeSaysNone (tree : Tree) : List Part → BoardReason → Type 0 where
       → SayNone BelowRoot cells same tree.children from reason
       → TreeSaysNone tree (from ++ (ends ∷ [])) reason
 
--- a tree says no ranges for this reason, which one of its nodes has
+-- a tree gives no ranges for this reason, at one of its nodes
 abbrev pub HasNoRanges : Tree → BoardReason → Type 0
 HasNoRanges tree reason = (from : List Part) × TreeSaysNone tree from reason
 
--- from the piece at that offset on the pieces are these parts
+-- these parts are the pieces from the one at the offset on
 pub record BeginAt (pieces : List PlacedPiece) (from : List Part) (offset : ℕ) : Type 0 where
   pub before : List PlacedPiece
   pub first : PlacedPiece
@@ -139,13 +140,13 @@ pub record BeginAt (pieces : List PlacedPiece) (from : List Part) (offset : ℕ)
   pub parts_are : parts_of (first ∷ later) ≡ from
   pub offset_is : first.offset ≡ offset
 
--- why a tree of these pieces says no ranges, and the offset of the node that has the reason
+-- the reason why a tree of these pieces gives no ranges, with the offset of the node
 abbrev pub IsBoardFault : List PlacedPiece → Tree → BoardFault → Type 0
 IsBoardFault pieces tree fault = (from : List Part) × TreeSaysNone tree from fault.reason
     × BeginAt pieces from fault.offset
 
--- why a tree of this structure block says no ranges, and the offset at which the node begins that
--- has the reason
+-- the reason why a tree in this structure block gives no ranges, with the offset at which the node
+-- begins
 abbrev pub IsBoardFaultIn : Block → Tree → BoardFault → Type 0
 IsBoardFaultIn block tree fault = (from : List Part) × TreeSaysNone tree from fault.reason
     × BeginsAt block fault.offset from

@@ -6,11 +6,11 @@ use Rattle.byteorder.specs.Endian.{big_number}
 use Rattle.device_tree.specs.declared.cells.Cells.{Cells}
 use Rattle.device_tree.specs.declared.rows.Extent.{Extent}
 
--- a number of that many cells of four bytes each, in front
+-- the number in the first cells, of four bytes each
 abbrev pub number_of : ℕ → List ℕ → ℕ
 number_of cells bytes = big_number (4 * cells) bytes
 
--- how many bytes an address and a size have
+-- the number of bytes of an address and a size
 abbrev pub row_len : Cells → ℕ
 row_len cells = 4 * (cells.address + cells.size)
 

@@ -24,15 +24,16 @@ pub record Setting : Type 0 where
   pub name : List ℕ
   pub value : List ℕ
 
--- a piece of the structure block: a node of that name begins, the node has a property, or it ends
+-- a piece of the structure block: the start of a node with this name, a property, or the end of a
+-- node
 pub data Part : Type 0 where
   begins : List ℕ → Part
   has : Setting → Part
   ends : Part
 
--- the bytes are a token, what belongs to the part, and the rest. A name is padded with its zero.
--- The name of a property is in the strings block, at the place that the second number after the
--- token says
+-- the bytes are a token, the rest of the part, and later bytes. A name is padded after its final
+-- zero. The name of a property is in the strings block, at the offset in the second number after
+-- the token
 abbrev pub SpellsPart : List ℕ → List ℕ → Part → List ℕ → Type 0
 SpellsPart strings bytes (begins name) rest = BeginsWith bytes 1
     × BeginsWithText (drop 4 bytes) name
@@ -44,11 +45,11 @@ SpellsPart strings bytes (has setting) rest = BeginsWith bytes 3
     × Leaves bytes (12 + padded (word_at bytes 4)) rest
 SpellsPart strings bytes ends rest = BeginsWith bytes 2 × Leaves bytes 4 rest
 
--- no part is at the front of the bytes
+-- the bytes do not begin with a part
 abbrev pub NoPart : List ℕ → List ℕ → Type 0
 NoPart strings bytes = (first : Part) (rest : List ℕ) → SpellsPart strings bytes first rest → ⊥
 
--- the bytes are these parts, with tokens of no meaning among them, and the token of the end
+-- the bytes are these parts, with any NOP tokens between them, and the end token
 pub data SpellsParts (strings : List ℕ) : List ℕ → List Part → Type 0 where
   the_end : {bytes : List ℕ} → BeginsWith bytes 9 → length bytes ≡ 4 → SpellsParts strings bytes []
   skipped : {bytes : List ℕ} {parts : List Part} → BeginsWith bytes 4
@@ -57,17 +58,17 @@ pub data SpellsParts (strings : List ℕ) : List ℕ → List Part → Type 0 wh
       → SpellsPart strings bytes first rest → SpellsParts strings rest parts
       → SpellsParts strings bytes (first ∷ parts)
 
--- what a piece of the program says
+-- the piece of the program, as a value
 abbrev pub part_of : Piece → Part
 part_of (Begins name) = begins name.now
 part_of (Has name value) = has (record { name = name.now; value = value.now })
 part_of Ends = ends
 
--- the parts of pieces, without their places
+-- the parts of pieces, without their offsets
 abbrev pub parts_of : List PlacedPiece → List Part
 parts_of pieces = map (λ placed. part_of placed.piece) pieces
 
--- what the bytes begin with: the end and nothing behind it, a token of no meaning, or a part; with
+-- the first token of the bytes: the end token and no byte after it, a NOP token, or a part; with
 -- the rest
 abbrev pub IsStep : List ℕ → List ℕ → Step → Type 0
 IsStep strings bytes Stop = BeginsWith bytes 9 × (length bytes ≡ 4)

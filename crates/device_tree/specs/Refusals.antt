@@ -1,4 +1,4 @@
--- Why bytes are no flattened device tree that is read here, and where what is wrong begins.
+-- Reasons why bytes are not a supported flattened device tree, and the offsets at which they occur.
 -- Devicetree Specification 0.4, chapter 5.
 use Rattle.std.specs.Prelude.{◌≡◌, ◌≢◌, ◌⊎◌, ℕ, ◌+◌, ◌%◌, ◌<◌, ◌≤◌, List, [], ◌∷◌, ◌++◌}
 use Rattle.std.specs.Prelude.{length, drop}
@@ -15,9 +15,9 @@ use Rattle.device_tree.specs.Nodes.{Tree, parts_of_tree}
 use Rattle.device_tree.specs.Trees.{IsHeader, IsBlock, BeginsWithReservations, reservations_of}
 use Rattle.device_tree.specs.Places.{Block, BeginsAt, ComesTo, block_of, from_offset}
 
--- what is wrong with the header of a tree's bytes: there is none; its magic number, its size, its
--- version, or the oldest version that it is read as (section 5.2); or one of the three blocks: its
--- place is not a multiple of eight or four (section 5.6), or it is not in the tree
+-- the fault of the header of a tree's bytes: its length, its magic number, its size, its version,
+-- or its last compatible version (section 5.2); or one of the three blocks has an offset that is
+-- not a multiple of eight or four (section 5.6), or is not inside the tree
 abbrev pub IsHeaderFault : List ℕ → TreeReason → Type 0
 IsHeaderFault bytes reasons.ShortHeader = length bytes < 40
 IsHeaderFault bytes reasons.BadMagic = word_at bytes 0 ≢ 0xd00d_feed
@@ -32,7 +32,7 @@ IsHeaderFault bytes reasons.BadReservationBlock = word_at bytes 16 % 8 ≡ 0
     → IsBlock bytes (word_at bytes 16) 0 → ⊥
 IsHeaderFault bytes _ = ⊥
 
--- where the header has the number that is wrong
+-- the offset of the wrong number in the header
 abbrev pub field_of : TreeReason → ℕ
 field_of reasons.BadSize = 4
 field_of reasons.BadStructureBlock = 8
@@ -42,32 +42,32 @@ field_of reasons.OldVersion = 20
 field_of reasons.NewVersion = 24
 field_of _ = 0
 
--- no pair of zeros ends the reservations in these bytes (section 5.3.2); so many bytes are whole
--- pairs, and fewer than a pair is left
+-- the reservations in these bytes lack the pair of zeros at the end (section 5.3.2); `read` bytes
+-- are whole pairs, and the rest is shorter than a pair
 pub record IsUnended (bytes : List ℕ) (read : ℕ) : Type 0 where
   pub none : (list : List Reservation) → BeginsWithReservations bytes list → ⊥
   pub whole : read % 16 ≡ 0
   pub inside : read ≤ length bytes
   pub few : length bytes < read + 16
 
--- a name in front reaches behind the bytes with what pads it, or a value does, or the two numbers
--- that come before a value
+-- a name at the front with its padding extends past the bytes, or a value does, or the two numbers
+-- before a value
 abbrev pub IsPast : List ℕ → Type 0
 IsPast bytes = (BeginsWith bytes 1 × (name : List ℕ) × BeginsWithText (drop 4 bytes) name
     × (length bytes < 4 + padded (length name + 1)))
     ⊎ (BeginsWith bytes 3 × ((length bytes < 12) ⊎ (length bytes < 12 + padded (word_at bytes 4))))
 
--- no zero ends the name of the property in front, which is in the strings block (section 5.5) at
--- the place that the second number after the token says
+-- the name of the property at the front, in the strings block (section 5.5) at the offset in the
+-- second number after the token, lacks its final zero
 pub record HasNoName (strings bytes : List ℕ) : Type 0 where
   pub token : BeginsWith bytes 3
   pub long : 12 ≤ length bytes
   pub none : (name : List ℕ) → BeginsWithText (drop (word_at bytes 8) strings) name → ⊥
 
--- what is wrong in a structure block with these bytes, in front of which a token is wanted
--- (section 5.4.1): there are not four; they begin with none of the five tokens; no zero ends the
--- name of the node; a name or a value reaches behind the block; no zero ends the name of the
--- property; or more follows the token of the end
+-- the fault of bytes in a structure block at which a token is expected (section 5.4.1): there are
+-- fewer than four; they do not begin with one of the five tokens; the name of the node lacks its
+-- final zero; a name or a value extends past the block; the name of the property lacks its final
+-- zero; or bytes follow the end token
 abbrev pub IsTokenFault : List ℕ → List ℕ → TreeReason → Type 0
 IsTokenFault strings bytes reasons.NoToken = length bytes < 4
 IsTokenFault strings bytes reasons.UnknownToken = (4 ≤ length bytes)
@@ -79,31 +79,30 @@ IsTokenFault strings bytes reasons.NoPropertyName = HasNoName strings bytes
 IsTokenFault strings bytes reasons.BytesBehindEnd = BeginsWith bytes 9 × (4 < length bytes)
 IsTokenFault strings bytes _ = ⊥
 
--- the fault says what is wrong with the bytes of a block from its offset on, to which its first
--- parts lead
+-- the fault occurs in the bytes of a block from its offset on, which follow some first parts
 pub record IsTokenFaultIn (block : Block) (fault : TreeFault) : Type 0 where
   pub before : List Part
   pub inside : block.start ≤ fault.offset
   pub comes : ComesTo block.strings block.bytes before (from_offset block fault.offset)
   pub wrong : IsTokenFault block.strings (from_offset block fault.offset) fault.reason
 
--- how many nodes begin among the parts
+-- the number of nodes that begin among the parts
 abbrev pub begun : List Part → ℕ
 begun [] = 0
 begun (begins name ∷ later) = 1 + begun later
 begun (has property ∷ later) = begun later
 begun (ends ∷ later) = begun later
 
--- how many nodes end among the parts
+-- the number of nodes that end among the parts
 abbrev pub ended : List Part → ℕ
 ended [] = 0
 ended (begins name ∷ later) = ended later
 ended (has property ∷ later) = ended later
 ended (ends ∷ later) = 1 + ended later
 
--- what is wrong with the first of the parts that are left behind those before, which are nodes
--- inside one another (section 5.4.2): it begins a node, and as many as may be have not ended; it is
--- a property behind the end of a node, and in a node; or it is not there, and a node has not ended
+-- the fault of the first part in `left`, which follow the parts before of nested nodes (section
+-- 5.4.2): it begins a node, and the maximum number of nodes are open; it is a property after the
+-- end of a node, inside a node; or it is missing, and a node is open
 pub data IsNestingFault (levels : ℕ) (before left : List Part) : TreeReason → Type 0 where
   deep : (name : List ℕ) (later : List Part) → left ≡ begins name ∷ later
       → begun before ≡ ended before + levels
@@ -114,8 +113,8 @@ pub data IsNestingFault (levels : ℕ) (before left : List Part) : TreeReason �
   unended : left ≡ [] → ended before < begun before
       → IsNestingFault levels before left reasons.UnendedNode
 
--- the same where the first node is the root, of at most 64 levels: the parts do not begin with a
--- node of no name, something is behind the root, or it is a fault of the nodes
+-- the fault of the first part in `left` in a tree of at most 64 levels: the parts do not begin with
+-- a node whose name is empty, a part follows the root, or a fault of the nested nodes
 pub data IsShapeFault (before left : List Part) : TreeReason → Type 0 where
   no_root : before ≡ [] → ((later : List Part) → left ≡ begins [] ∷ later → ⊥)
       → IsShapeFault before left reasons.NoRoot
@@ -124,13 +123,13 @@ pub data IsShapeFault (before left : List Part) : TreeReason → Type 0 where
   in_root : (reason : TreeReason) → IsNestingFault 64 before left reason
       → IsShapeFault before left reason
 
--- where the first of the pieces is, or the end of them all
+-- the offset of the first piece, or `end` if there is none
 abbrev pub offset_of : List PlacedPiece → ℕ → ℕ
 offset_of [] end = end
 offset_of (first ∷ later) end = first.offset
 
--- some of the pieces are left behind others, and the reason is what is wrong with the first, which
--- is at the offset
+-- pieces are split in two, and the reason is the fault of the first of the second half, at the
+-- offset
 pub record IsWrongAt (IsWrong : List Part → List Part → TreeReason → Type 0)
     (pieces : List PlacedPiece) (end : ℕ) (fault : TreeFault) : Type 0 where
   pub before : List Part
@@ -139,13 +138,13 @@ pub record IsWrongAt (IsWrong : List Part → List Part → TreeReason → Type 
   pub offset_is : fault.offset ≡ offset_of (drop count pieces) end
   pub wrong : IsWrong before (parts_of (drop count pieces)) fault.reason
 
--- why a node is open where these parts are left, which neither begin nor end one
+-- the reason why a node is still open at these parts, which neither begin nor end a node
 abbrev pub open_reason : List Part → TreeReason
 open_reason [] = reasons.UnendedNode
 open_reason (first ∷ later) = reasons.LateProperty
 
--- the parts of a structure block are no tree: what is wrong with the first of those that are left
--- behind others, which begin at the offset
+-- the parts of a structure block are not a tree: the fault of the first of the parts in `left`,
+-- which begin at the offset
 pub record IsPartsFault (block : Block) (fault : TreeFault) : Type 0 where
   pub before : List Part
   pub left : List Part
@@ -153,9 +152,8 @@ pub record IsPartsFault (block : Block) (fault : TreeFault) : Type 0 where
   pub place : BeginsAt block fault.offset left
   pub wrong : IsShapeFault before left fault.reason
 
--- why the bytes of a tree are none that is read here, and the offset of what is wrong: a number of
--- the header; or, behind a right header, the reservations, a token, or how the parts are inside one
--- another
+-- the reason why the bytes of a tree are rejected, and its offset: a number of the header; or,
+-- after a valid header, the reservations, a token, or the nesting of the parts
 pub data IsTreeFault (bytes : List ℕ) (fault : TreeFault) : Type 0 where
   of_header : IsHeaderFault bytes fault.reason → fault.offset ≡ field_of fault.reason
       → IsTreeFault bytes fault

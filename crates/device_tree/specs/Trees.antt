@@ -1,17 +1,17 @@
--- The bytes of a flattened device tree: its header, its blocks, and the tree that they spell.
--- Devicetree Specification 0.4, chapter 5.
+-- The bytes of a flattened device tree: its header, its blocks, and its contents. Devicetree
+-- Specification 0.4, chapter 5.
 use Rattle.std.specs.Prelude.{◌≡◌, ℕ, ◌+◌, ◌%◌, ◌≤◌, List, [], ◌∷◌, length, take, drop}
 use Rattle.device_tree.specs.declared.reservations.Reservation.{Reservation}
 use Rattle.device_tree.specs.Words.{word_at, double_word_at}
 use Rattle.device_tree.specs.Pieces.{SpellsParts}
 use Rattle.device_tree.specs.Nodes.{AreWithin, Tree, parts_of_tree}
 
--- a block of that many bytes at a place is in the tree, behind its header of forty bytes
+-- a block with this offset and size is inside the tree, after its header of forty bytes
 pub record IsBlock (bytes : List ℕ) (place size : ℕ) : Type 0 where
   pub behind : 40 ≤ place
   pub inside : place + size ≤ length bytes
 
--- the places and sizes of the structure, the strings and the reservations
+-- the offsets and sizes of the structure, the strings and the reservations
 pub record AreBlocks (bytes : List ℕ) : Type 0 where
   pub structure : IsBlock bytes (word_at bytes 8) (word_at bytes 36)
   pub structure_aligned : word_at bytes 8 % 4 ≡ 0
@@ -19,8 +19,8 @@ pub record AreBlocks (bytes : List ℕ) : Type 0 where
   pub reservations : IsBlock bytes (word_at bytes 16) 0
   pub reservations_aligned : word_at bytes 16 % 8 ≡ 0
 
--- the header: the magic number, the size of the whole tree, the version, the oldest version that
--- it is read as, and the blocks
+-- the header: the magic number, the total size, the version, the last compatible version, and the
+-- blocks
 pub record IsHeader (bytes : List ℕ) : Type 0 where
   pub long : 40 ≤ length bytes
   pub magic : word_at bytes 0 ≡ 0xd00d_feed
@@ -42,7 +42,7 @@ abbrev pub reservations_of : List ℕ → List ℕ
 reservations_of bytes = drop (word_at bytes 16) bytes
 
 -- the bytes begin with these reservations, each an address and a size of eight bytes, and the pair
--- of zeros that ends them
+-- of zeros at the end
 abbrev pub BeginsWithReservations : List ℕ → List Reservation → Type 0
 BeginsWithReservations bytes [] = (16 ≤ length bytes)
     × (double_word_at bytes 0 ≡ 0) × (double_word_at bytes 8 ≡ 0)
@@ -51,14 +51,14 @@ BeginsWithReservations bytes (first ∷ later) = (16 ≤ length bytes)
     × (first.address ≡ 0 → first.size ≡ 0 → ⊥)
     × BeginsWithReservations (drop 16 bytes) later
 
--- the bytes are a flattened device tree: this tree and these reservations
+-- the bytes are a flattened device tree with these contents and these reservations
 pub record SpellsTree (bytes : List ℕ) (tree : Tree) (reservations : List Reservation) :
     Type 0 where
   pub header : IsHeader bytes
   pub reserved : BeginsWithReservations (reservations_of bytes) reservations
   pub structure : SpellsParts (strings_of bytes) (structure_of bytes) (parts_of_tree tree)
 
--- the tree in front of bytes: as many as its header says, whatever follows them
+-- the tree at the front of bytes: up to the total size in its header
 abbrev pub front_of : List ℕ → List ℕ
 front_of bytes = take (word_at bytes 4) bytes
 

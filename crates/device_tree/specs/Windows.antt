@@ -1,4 +1,4 @@
--- How a bus translates addresses: its `ranges`. Devicetree Specification 0.4, section 2.3.8.
+-- The translation of addresses by a bus with `ranges`. Devicetree Specification 0.4, section 2.3.8.
 use Rattle.std.specs.Prelude.{◌≡◌, ◌≢◌, ◌⊎◌, ℕ, zero, suc, ◌+◌, ◌-◌, ◌*◌, ◌<◌, ◌≤◌, ◌^◌, min}
 use Rattle.std.specs.Prelude.{Bool, true, false, cond, leb, ltb, eqb, ◌&&◌}
 use Rattle.std.specs.Prelude.{List, [], ◌∷◌, Option, None, Some, option_map, length, drop}
@@ -32,7 +32,7 @@ has_address window address = leb window.child address
     && (ltb (address - window.child) window.size
     && ltb (window.parent + (address - window.child)) (2 ^ 64))
 
--- the address of the parent that an address of the bus is, by the first window that translates it
+-- the address on the parent for an address of the bus, by the first window that translates it
 abbrev pub parent_address : List Window → ℕ → Option ℕ
 parent_address [] address = None
 parent_address (first ∷ later) address = cond (has_address first address)
@@ -46,13 +46,13 @@ Path = List (List Window)
 abbrev pub same : Path
 same = []
 
--- the address of the root that an address of the bus is, level by level
+-- the address at the root for an address of the bus, translated level by level
 abbrev pub root_address : Path → ℕ → Option ℕ
 root_address [] address = Some address
 root_address (bus ∷ outer) address = option_and_then (root_address outer)
     (parent_address bus address)
 
--- the buses of the program's way
+-- the buses of the program's translation
 abbrev pub path_of : Way → Path
 path_of Same = []
 path_of (Bus' p windows outer) = windows.items ∷ path_of outer
@@ -61,13 +61,12 @@ path_of (Bus' p windows outer) = windows.items ∷ path_of outer
 abbrev pub moved : ℕ → Option ℕ → Option ℕ
 moved bytes address = option_map (λ (a : ℕ). a + bytes) address
 
--- the bytes from an address on are one piece: they are consecutive at the root, or none has an
--- address there
+-- the bytes from an address on are one piece: they are consecutive at the root, or none of them has
+-- an address there
 abbrev pub IsPiece : (ℕ → Option ℕ) → ℕ → ℕ → Type 0
 IsPiece root address size = (k : ℕ) → k < size → root (address + k) ≡ moved k (root address)
 
--- the bytes from an address on are these parts in order. Each is one piece, and as long as it can
--- be
+-- the bytes from an address on are these parts in order, each of which is one piece of maximal size
 abbrev pub AreParts : (ℕ → Option ℕ) → ℕ → ℕ → List RowPart → Type 0
 AreParts root address size [] = size ≡ 0
 AreParts root address size (first ∷ later) = (first.base ≡ address)
@@ -81,7 +80,7 @@ AreParts root address size (first ∷ later) = (first.base ≡ address)
 abbrev pub bus_size : Extent → ℕ
 bus_size extent = min extent.size (2 ^ 64 - extent.base)
 
--- the same address, or none twice
+-- the two addresses are equal, or both are missing
 abbrev pub is_same_address : Option ℕ → Option ℕ → Bool
 is_same_address None None = true
 is_same_address None (Some b) = false
@@ -94,7 +93,7 @@ is_piece root address zero = true
 is_piece root address (suc size) = is_piece root address size
     && is_same_address (root (address + size)) (moved size (root address))
 
--- an extent of a bus by these addresses, if all of it is one piece
+-- an extent of a bus at the root by these addresses, if all of it is one piece
 abbrev pub in_one_piece : (ℕ → Option ℕ) → Extent → Option Extent
 in_one_piece root extent = cond
     (leb (extent.base + extent.size) (2 ^ 64) && is_piece root extent.base extent.size)

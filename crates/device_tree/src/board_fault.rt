@@ -1,13 +1,13 @@
-//! Why a tree says no ranges.
+//! Reasons why a tree gives no ranges.
 
 use crate::rows::RowFault;
 
-/// Why a tree says no ranges.
+/// The reason why a tree gives no ranges.
 #[derive(Clone, Copy, Debug, PartialEq, Eq)]
 pub enum BoardReason {
-    /// `#address-cells` or `#size-cells` is no number from 0 to 4.
+    /// `#address-cells` or `#size-cells` is not a number from 0 to 4.
     BadCells,
-    /// `reg` or `ranges` has no rows.
+    /// The rows of `reg` or `ranges` are invalid.
     BadRows(RowFault),
 }
 

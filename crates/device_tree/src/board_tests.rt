@@ -1,4 +1,4 @@
-//! A small tree, and the ranges that it says.
+//! Tests of the ranges of a small tree.
 
 use crate::{
     BoardFault, BoardReason, Extent, Found, Kind, PlacedPiece, RowFault, ranges_of, read_tree,
@@ -6,8 +6,9 @@ use crate::{
 use std::alloc::Global;
 use std::process::Abort;
 
-/// Memory of 4 KiB at 0x80000000. A bus, whose first 4 KiB are at 0x10000000, with a UART at 0x100 of eight bytes, a device that is
-/// disabled, and one of which its window has the first half. Each has addresses and sizes of one cell. `dtc` made it.
+/// Memory of 4 KiB at 0x80000000, and a bus whose first 4 KiB are at 0x10000000. The bus has a UART of eight bytes at
+/// 0x100, a disabled device, and a device of which the bus translates only the first half. Addresses and sizes have one
+/// cell. Made by `dtc`.
 #[rattlefmt::skip]
 const SMALL: [u8; 433] = [
     0xd0, 0x0d, 0xfe, 0xed, 0, 0, 0x01, 0xb1, 0, 0, 0, 0x38, 0, 0, 0x01, 0x78, 0, 0, 0, 0x28, 0, 0,
@@ -32,7 +33,7 @@ const SMALL: [u8; 433] = [
     0x73, 0x74, 0x61, 0x74, 0x75, 0x73, 0,
 ];
 
-/// What is expected of one range.
+/// Asserts the kind and the extent of one range.
 fn expect_range(rt: &impl Abort, found: Found, kind: Kind, base: u64, size: u64) {
     assert!(rt; found.kind == kind);
     assert!(rt; found.extent == Extent { base, size });
@@ -67,7 +68,7 @@ fn fault_in<'a>(alloc: Global, pieces: &'a [PlacedPiece<'a>]) -> Option<BoardFau
     }
 }
 
-/// Whether that is wrong with the small tree where the root says that number of cells for an address.
+/// Asserts the fault of the small tree when its root has this `#address-cells`.
 fn expect_fault(rt: &impl Abort, alloc: Global, cells: u8, wanted: BoardFault) {
     let mut bytes = SMALL;
     bytes[79] = cells;

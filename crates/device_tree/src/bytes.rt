@@ -1,11 +1,11 @@
-//! Cuts and numbers in bytes.
+//! Slices and big-endian numbers.
 
 ghost use Rattle.std.specs.Prelude.{◌≡◌, ◌*◌, ◌≤◌, ◌^◌, MatchOption, drop, length};
 ghost use Rattle.device_tree.specs.Cells.{number_of};
 
 use byteorder::{BigEndian, ByteOrder};
 
-/// What comes behind that many bytes, which are there.
+/// Returns the bytes after the first `n`, of which there are at least `n`.
 pub(crate) fn after(bytes: &[u8], n: usize) -> &[u8]
     requires { n ≤ length bytes.now }
     ensures { result.now ≡ drop n bytes.now }
@@ -13,7 +13,7 @@ pub(crate) fn after(bytes: &[u8], n: usize) -> &[u8]
     &bytes[n..]
 }
 
-/// The number of that many cells in front, where it has at most 64 bits.
+/// Returns the number in the first cells, if it fits in 64 bits.
 pub(crate) fn number_of(bytes: &[u8], cells: usize) -> Option<u64>
     requires few { cells ≤ 4 }
     requires long { 4 * cells ≤ length bytes.now }

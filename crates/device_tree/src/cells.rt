@@ -1,8 +1,8 @@
-//! How many cells the numbers of a bus have.
+//! The numbers of cells of addresses and sizes on a bus.
 
 ghost use Rattle.std.specs.Prelude.{◌≤◌};
 
-/// How many cells of four bytes an address and a size have on a bus.
+/// The number of four-byte cells of an address and of a size on a bus.
 #[derive(Clone, Copy)]
 pub struct Cells {
     pub address: usize,
@@ -15,7 +15,7 @@ impl Cells {
     ghost use Rattle.std.specs.Prelude.{◌≡◌};
     ghost use Rattle.device_tree.specs.Cells.{row_len};
 
-    /// How many bytes an address and a size have.
+    /// Returns the number of bytes of an address and a size.
     pub(crate) fn row_len(&self) -> usize
         ensures { result ≡ row_len self.now }
     {

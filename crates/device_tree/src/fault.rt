@@ -1,53 +1,53 @@
-//! Why bytes are no flattened device tree.
+//! Reasons why bytes are not a flattened device tree.
 
-/// Why bytes are no flattened device tree, or none that is read here.
+/// The reason why bytes are not a flattened device tree that this crate accepts.
 #[derive(Clone, Copy, Debug, PartialEq, Eq)]
 pub enum TreeReason {
-    /// Fewer than forty bytes, or the header says so.
+    /// There are fewer than forty bytes, according to the slice or to the header.
     ShortHeader,
     /// The first four bytes are not d0 0d fe ed.
     BadMagic,
-    /// The header says more bytes than there are.
+    /// The header's total size exceeds the number of bytes.
     BadSize,
     /// The version is below 17.
     OldVersion,
-    /// The tree is not to be read as version 17.
+    /// The last compatible version is above 17.
     NewVersion,
-    /// The structure block is not inside the tree, or not at a multiple of four.
+    /// The structure block is not inside the tree, or its offset is not a multiple of four.
     BadStructureBlock,
     /// The strings block is not inside the tree.
     BadStringsBlock,
-    /// The memory reservation block is not inside the tree, or not at a multiple of eight.
+    /// The memory reservation block is not inside the tree, or its offset is not a multiple of eight.
     BadReservationBlock,
-    /// No pair of zeros ends the memory reservations.
+    /// The memory reservations lack the pair of zeros at the end.
     UnendedReservations,
-    /// No four bytes are left for a token.
+    /// Fewer than four bytes are left for a token.
     NoToken,
-    /// The token is none of the five.
+    /// The token is not one of the five.
     UnknownToken,
-    /// No zero byte ends the name of a node.
+    /// The name of a node lacks its final zero byte.
     UnendedName,
-    /// A name or a value reaches behind the structure block.
+    /// A name or a value extends past the structure block.
     PastBlock,
-    /// No zero byte ends the name of a property in the strings block.
+    /// The name of a property in the strings block lacks its final zero byte.
     NoPropertyName,
-    /// Bytes follow the token of the end.
+    /// Bytes follow the end token.
     BytesBehindEnd,
-    /// More than 64 nodes are inside one another.
+    /// Nodes are nested more than 64 levels deep.
     TooDeep,
     /// A property follows a child of its node.
     LateProperty,
     /// A node does not end.
     UnendedNode,
-    /// The pieces do not begin with a node of no name.
+    /// The pieces do not begin with a node whose name is empty.
     NoRoot,
     /// A piece follows the end of the root.
     PieceBehindRoot,
-    /// Memory was refused.
+    /// An allocation failed.
     Memory,
 }
 
-/// A reason and its place: the offset of a byte of the tree.
+/// A reason, and the offset of the byte in the tree at which it occurs.
 #[derive(Clone, Copy, Debug, PartialEq, Eq)]
 pub struct TreeFault {
     pub reason: TreeReason,

@@ -1,4 +1,4 @@
-//! The node in front of pieces: its name, its properties, and what follows them.
+//! The first node of a list of pieces: its name, its properties, and the pieces that follow them.
 
 ghost use Rattle.std.specs.Prelude.{◌≡◌, ◌+◌, ◌≤◌, ◌<◌, ◌++◌, ◌∷◌, ℕ, List, [], IfSome, MatchOption, drop, length, map};
 ghost use Rattle.device_tree.specs.Pieces.{Part, Setting, begins, ends, has, part_of, parts_of};
@@ -7,7 +7,7 @@ ghost use Rattle.device_tree.specs.declared.pieces.PlacedPiece.{PlacedPiece};
 
 use crate::{Piece, PlacedPiece};
 
-/// The beginning of a node and its properties, and the pieces after them.
+/// The start of a node, with its properties and the pieces after them.
 #[derive(Clone, Copy)]
 pub struct Head<'a> {
     pub offset: usize,
@@ -16,7 +16,7 @@ pub struct Head<'a> {
     pub inner: &'a [PlacedPiece<'a>],
 }
 
-/// What is behind that many pieces, which are there.
+/// Returns the pieces after the first `n`, of which there are at least `n`.
 fn after<'a>(pieces: &'a [PlacedPiece<'a>], n: usize) -> &'a [PlacedPiece<'a>]
     requires { n ≤ length pieces.now }
     ensures pieces { result.now ≡ drop n pieces.now }
@@ -26,7 +26,7 @@ fn after<'a>(pieces: &'a [PlacedPiece<'a>], n: usize) -> &'a [PlacedPiece<'a>]
     &pieces[n..]
 }
 
-/// The first piece, and those behind it.
+/// Returns the first piece and the rest.
 fn first_of<'a>(pieces: &'a [PlacedPiece<'a>]) -> Option<(Piece<'a>, &'a [PlacedPiece<'a>])>
     ensures { MatchOption result (parts_of pieces.now ≡ []) (λ x.
         parts_of pieces.now ≡ part_of x.0 ∷ parts_of x.1.now) }
@@ -35,7 +35,7 @@ fn first_of<'a>(pieces: &'a [PlacedPiece<'a>]) -> Option<(Piece<'a>, &'a [Placed
     Some((first.piece, later))
 }
 
-/// What is behind a property.
+/// Returns the pieces after a property, if one is first.
 fn after_property<'a>(pieces: &'a [PlacedPiece<'a>]) -> Option<&'a [PlacedPiece<'a>]>
     ensures { MatchOption result (HasNoProperty (parts_of pieces.now))
         (λ later. (property : Setting)
@@ -47,7 +47,7 @@ fn after_property<'a>(pieces: &'a [PlacedPiece<'a>]) -> Option<&'a [PlacedPiece<
     }
 }
 
-/// How many properties are in front.
+/// Counts the properties at the front.
 fn properties_len<'a>(pieces: &'a [PlacedPiece<'a>]) -> usize
     ensures within { result ≤ length pieces.now }
     ensures properties { (properties : List Setting) × (parts_of pieces.now
@@ -64,7 +64,7 @@ fn properties_len<'a>(pieces: &'a [PlacedPiece<'a>]) -> usize
     at
 }
 
-/// The properties in front, and the pieces after them.
+/// Splits the pieces into the properties at the front and the rest.
 fn split_properties<'a>(
     pieces: &'a [PlacedPiece<'a>],
 ) -> (&'a [PlacedPiece<'a>], &'a [PlacedPiece<'a>])
@@ -79,7 +79,7 @@ fn split_properties<'a>(
     (&pieces[..count], after(pieces, count))
 }
 
-/// The node in front, if one begins there.
+/// Returns the first node, if the pieces begin with one.
 pub fn head_of<'a>(pieces: &'a [PlacedPiece<'a>]) -> Option<Head<'a>>
     ensures parts { MatchOption result (BeginsNoNode (parts_of pieces.now))
         (λ head. (properties : List Setting)
@@ -105,7 +105,7 @@ pub fn head_of<'a>(pieces: &'a [PlacedPiece<'a>]) -> Option<Head<'a>>
     })
 }
 
-/// What is behind the end of a node, which is the first of the pieces.
+/// Returns the pieces after the end of a node, which must be the first piece.
 pub fn after_end<'a>(pieces: &'a [PlacedPiece<'a>]) -> &'a [PlacedPiece<'a>]
     ensures parts { (later : List Part) → parts_of pieces.now ≡ ends ∷ later
         → parts_of result.now ≡ later }

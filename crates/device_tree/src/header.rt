@@ -1,4 +1,4 @@
-//! The header, and the blocks that it names.
+//! The header, and the blocks that it locates.
 
 ghost use Rattle.std.specs.Prelude.{◌≡◌, ℕ, ◌+◌, ◌<◌, ◌≤◌, ◌^◌, ◌↔◌, IfErr, IfOk, IsTrue, MatchOption, OnErr, OnOk, drop, length};
 ghost use Rattle.device_tree.specs.Words.{word_at};
@@ -9,16 +9,16 @@ use crate::fault::{TreeFault, TreeReason};
 use crate::words::after;
 use byteorder::{BigEndian, ByteOrder};
 
-/// The first four bytes of a flattened device tree.
+/// The magic number: the first four bytes of a flattened device tree.
 const MAGIC: usize = 0xd00d_feed;
 
-/// The version that is read here.
+/// The supported version of the format.
 const VERSION: usize = 17;
 
-/// How many bytes the header has.
+/// Size of the header in bytes.
 const HEADER: usize = 40;
 
-/// The number of four bytes at a place.
+/// Returns the four-byte number at an offset.
 fn word_at(bytes: &[u8], place: usize) -> usize
     requires { place + 4 ≤ length bytes.now }
     ensures value { result ≡ word_at bytes.now place }
@@ -27,7 +27,7 @@ fn word_at(bytes: &[u8], place: usize) -> usize
     BigEndian::read_u32(after(bytes, place)) as usize
 }
 
-/// Whether a block is in the tree, behind its header.
+/// Returns whether a block is inside the tree, after its header.
 fn is_block(bytes: &[u8], place: usize, size: usize) -> bool
     requires place { place < 2 ^ 32 }
     requires size { size < 2 ^ 32 }
@@ -36,7 +36,8 @@ fn is_block(bytes: &[u8], place: usize, size: usize) -> bool
     place >= HEADER && place + size <= bytes.len()
 }
 
-/// As many of the bytes as their header says, or all where it says more; none where they have no header.
+/// Returns the bytes up to the header's total size, or all of them if there are fewer, or `None` if they are too few
+/// for a header.
 pub(crate) fn front_of(bytes: &[u8]) -> Option<&[u8]>
     ensures { MatchOption result (length bytes.now < 40)
         (λ front. (front.now ≡ front_of bytes.now) × (40 ≤ length bytes.now)) }
@@ -52,7 +53,7 @@ pub(crate) fn front_of(bytes: &[u8]) -> Option<&[u8]>
     Some(front)
 }
 
-/// Where the header says no right block, the fault.
+/// Checks the blocks that the header locates.
 fn check_blocks(bytes: &[u8]) -> Result<(), TreeFault>
     requires { 40 ≤ length bytes.now }
     ensures ok { OnOk result (AreBlocks bytes.now) }
@@ -83,7 +84,7 @@ fn check_blocks(bytes: &[u8]) -> Result<(), TreeFault>
     Ok(())
 }
 
-/// Where the bytes begin with no header of a tree that is read here, the fault.
+/// Checks that the bytes begin with the header of a supported tree.
 pub(crate) fn check_header(bytes: &[u8]) -> Result<(), TreeFault>
     ensures ok { OnOk result (IsHeader bytes.now) }
     ensures refused { OnErr result (IsHeader bytes.now → ⊥) }
@@ -106,7 +107,7 @@ pub(crate) fn check_header(bytes: &[u8]) -> Result<(), TreeFault>
     Err(TreeFault { reason, offset })
 }
 
-/// The structure block.
+/// Returns the structure block.
 pub(crate) fn structure_of(bytes: &[u8]) -> &[u8]
     requires { IsHeader bytes.now }
     ensures { result.now ≡ structure_of bytes.now }
@@ -115,7 +116,7 @@ pub(crate) fn structure_of(bytes: &[u8]) -> &[u8]
     block
 }
 
-/// Where the structure block begins.
+/// Returns the offset of the structure block.
 pub(crate) fn structure_offset(bytes: &[u8]) -> usize
     requires { IsHeader bytes.now }
     ensures { result ≡ word_at bytes.now 8 }
@@ -123,7 +124,7 @@ pub(crate) fn structure_offset(bytes: &[u8]) -> usize
     word_at(bytes, 8)
 }
 
-/// The strings block.
+/// Returns the strings block.
 pub(crate) fn strings_of(bytes: &[u8]) -> &[u8]
     requires { IsHeader bytes.now }
     ensures { result.now ≡ strings_of bytes.now }
@@ -132,7 +133,7 @@ pub(crate) fn strings_of(bytes: &[u8]) -> &[u8]
     block
 }
 
-/// The memory reservation block, and what follows it.
+/// Returns the bytes from the memory reservation block on.
 pub(crate) fn reservations_of(bytes: &[u8]) -> &[u8]
     requires { IsHeader bytes.now }
     ensures { result.now ≡ reservations_of bytes.now }

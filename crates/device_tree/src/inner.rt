@@ -1,4 +1,4 @@
-//! What the properties of a node say to its children.
+//! The properties of a node that affect its children.
 
 ghost use Rattle.std.specs.Prelude.{◌≡◌, ◌≤◌, Option, IfErr, IfOk, codes};
 ghost use Rattle.device_tree.specs.Pieces.{parts_of};
@@ -17,7 +17,7 @@ use crate::registers::cells_of;
 use crate::ways::Way;
 use std::alloc::Global;
 
-/// What the children of a node have from it: cells, a place, and how their addresses come to the root.
+/// Facts that the children of a node inherit: cells, place, and the translation of their addresses to the root.
 #[derive(Drop)]
 pub struct Inner {
     pub cells: Cells,
@@ -25,9 +25,10 @@ pub struct Inner {
     pub way: Way,
 }
 
-/// What the children of a node of that name have from it, by its own place and the cells and the way of its bus.
+/// Returns these facts for the children of a node with this name, given its own place and the cells and the translation
+/// of its bus.
 ///
-/// Refused where its cells are no numbers from 0 to 4, or its `ranges` has no rows. Memory can be refused for each row.
+/// Fails if its cells are not numbers from 0 to 4, if the rows of its `ranges` are invalid, or if an allocation fails.
 pub fn inner_of<'a>(
     alloc: Global,
     name: &[u8],

@@ -1,32 +1,32 @@
-//! What the registers of a node are.
+//! Kinds of ranges, and places of nodes.
 
-/// What a range of addresses is.
+/// The kind of a range of addresses.
 #[derive(Clone, Copy, Debug, PartialEq, Eq)]
 pub enum Kind {
     /// Memory.
     Memory,
     /// Registers of a device.
     Device,
-    /// Registers of a device that is machine mode's: the timer or the software interrupts of harts, or an interrupt controller of
-    /// machine mode.
+    /// Registers of a device that belongs to machine mode: a timer or a source of software interrupts of harts, or an
+    /// interrupt controller of machine mode.
     Machine,
-    /// Memory that is not to be mapped.
+    /// Memory that must not be mapped.
     Reserved,
-    /// A hart: its numbers, each with a size of no cells.
+    /// A hart: its `reg` contains its number, with a size of zero cells.
     Hart,
     /// Registers at addresses that some bus does not translate to the root.
     Untranslated,
 }
 
-/// Where a node is.
+/// The place of a node.
 #[derive(Clone, Copy)]
 pub enum Place {
     /// A child of the root.
     BelowRoot,
     /// A child of `/reserved-memory`.
     InReserved,
-    /// On a bus in use whose addresses come to the root.
+    /// On an enabled bus whose addresses are translated to the root.
     OnBus,
-    /// On no such bus.
+    /// On any other bus.
     Elsewhere,
 }

@@ -1,7 +1,8 @@
-//! Flattened device trees: what their bytes spell, and the ranges of memory and devices that a board's tree describes.
+//! Reads flattened device trees, and finds the memory, the devices and the harts of a board in them.
 //!
-//! [`read_tree`] checks a tree and returns its pieces, or the reason for refusing it with its offset. [`ranges_of`] returns the memory,
-//! the reserved ranges and the devices of a board, each translated to the addresses of the root, with the node that it is from.
+//! [`read_tree`] checks a tree and returns its pieces, or the reason for rejecting it with its offset. [`ranges_of`]
+//! returns the memory, the reserved ranges and the devices of a board, each translated to addresses of the root, with
+//! the name of its node.
 #![tactic(auto)]
 
 mod board_fault;

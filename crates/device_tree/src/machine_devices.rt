@@ -1,4 +1,4 @@
-//! Devices that are machine mode's.
+//! Devices that belong to machine mode.
 
 ghost use Rattle.std.specs.Prelude.{◌≡◌, ◌+◌, ◌≤◌, ◌/◌, ◌&&◌, ◌==◌, drop, leb, length, option_map};
 ghost use Rattle.byteorder.specs.Endian.{big_number};
@@ -7,14 +7,14 @@ ghost use Rattle.device_tree.specs.MachineDevices.{follows_zero, has_machine_int
 use crate::bytes::after;
 use byteorder::{BigEndian, ByteOrder};
 
-/// Whether the bytes begin with the text.
+/// Returns whether the bytes begin with the text.
 fn is_front(bytes: &[u8], text: &[u8]) -> bool
     ensures { result ≡ is_front text.now bytes.now }
 {
     bytes.len() >= text.len() && &bytes[..text.len()] == text
 }
 
-/// Whether the text comes directly after a zero.
+/// Returns whether the text occurs directly after a zero.
 fn follows_zero(bytes: &[u8], text: &[u8]) -> bool
     ensures { result ≡ follows_zero text.now bytes.now }
 {
@@ -28,7 +28,7 @@ fn follows_zero(bytes: &[u8], text: &[u8]) -> bool
     false
 }
 
-/// Whether one of the texts in the bytes is this one. The zero that ends it is given with it.
+/// Returns whether the text, passed with its final zero, is one of the texts in the bytes.
 #[tactic(auto, unfolding(crate::specs::MachineDevices::has_text))]
 fn has_text(bytes: &[u8], text: &[u8]) -> bool
     ensures { result ≡ has_text text.now bytes.now }
@@ -36,7 +36,7 @@ fn has_text(bytes: &[u8], text: &[u8]) -> bool
     is_front(bytes, text) || follows_zero(bytes, text)
 }
 
-/// Whether a device is timer and software interrupts of harts in one.
+/// Returns whether a device combines the timer and the software interrupts of harts.
 fn is_clint(bytes: &[u8]) -> bool
     ensures { result ≡ is_clint bytes.now }
 {
@@ -46,7 +46,7 @@ fn is_clint(bytes: &[u8]) -> bool
     has_text(bytes, b"thead,c900-clint\0".as_slice())
 }
 
-/// Whether a device is the same of SiFive.
+/// Returns whether a device is SiFive's CLINT.
 fn is_sifive_clint(bytes: &[u8]) -> bool
     ensures { result ≡ is_sifive_clint bytes.now }
 {
@@ -56,7 +56,7 @@ fn is_sifive_clint(bytes: &[u8]) -> bool
     has_text(bytes, b"sifive,clint2\0".as_slice())
 }
 
-/// Whether a device is the timer of harts.
+/// Returns whether a device is a timer of harts.
 fn is_timer(bytes: &[u8]) -> bool
     ensures { result ≡ is_timer bytes.now }
 {
@@ -66,7 +66,7 @@ fn is_timer(bytes: &[u8]) -> bool
     has_text(bytes, b"thead,c900-aclint-mtimer\0".as_slice())
 }
 
-/// Whether a device is what sends harts software interrupts.
+/// Returns whether a device sends software interrupts to harts.
 fn is_sender(bytes: &[u8]) -> bool
     ensures { result ≡ is_sender bytes.now }
 {
@@ -76,7 +76,7 @@ fn is_sender(bytes: &[u8]) -> bool
     has_text(bytes, b"thead,c900-aclint-mswi\0".as_slice())
 }
 
-/// Returns whether a device is Andes' timer of harts, or sends them software interrupts.
+/// Returns whether a device is Andes' timer of harts, or its source of software interrupts.
 fn is_andes(bytes: &[u8]) -> bool
     ensures { result ≡ is_andes bytes.now }
 {
@@ -96,10 +96,10 @@ fn is_controller(bytes: &[u8]) -> bool
     has_text(bytes, b"riscv,imsics\0".as_slice())
 }
 
-/// The external interrupt of machine mode.
+/// The number of the external interrupt of machine mode.
 const MACHINE_INTERRUPT: u32 = 11;
 
-/// Returns whether the first pair of cells has the external interrupt of machine mode.
+/// Returns whether the first pair of cells names the external interrupt of machine mode.
 fn is_machine_pair(bytes: &[u8]) -> bool
     requires { 8 ≤ length bytes.now }
     ensures { result ≡ (leb 8 (length bytes.now) && big_number 4 (drop 4 bytes.now) == 11) }
@@ -107,7 +107,7 @@ fn is_machine_pair(bytes: &[u8]) -> bool
     BigEndian::read_u32(after(bytes, 4)) == MACHINE_INTERRUPT
 }
 
-/// Returns whether a pair of cells has the external interrupt of machine mode.
+/// Returns whether a pair of cells names the external interrupt of machine mode.
 fn has_machine_interrupt(bytes: &[u8]) -> bool
     ensures { result ≡ has_machine_interrupt (length bytes.now / 8) bytes.now }
 {
@@ -121,7 +121,7 @@ fn has_machine_interrupt(bytes: &[u8]) -> bool
     false
 }
 
-/// Returns whether `interrupts-extended` says that a device interrupts harts in machine mode.
+/// Returns whether a device interrupts harts in machine mode, according to `interrupts-extended`.
 fn interrupts_machine(interrupts: Option<&[u8]>) -> bool
     ensures { result ≡ interrupts_machine (option_map (λ bytes. bytes.now) interrupts.entry) }
 {

@@ -1,4 +1,4 @@
-//! How nodes are inside one another: the pieces are a tree.
+//! The nesting of nodes: checks that the pieces form a tree.
 
 ghost use Rattle.std.specs.Prelude.{◌≡◌, ℕ, List, [], ◌∷◌, ◌++◌, IfErr, IfOk, IfSome, OnErr, OnOk, MatchOption, ◌≤◌, drop, length, map};
 ghost use Rattle.device_tree.specs.Pieces.{Part, Setting, begins, ends, has, part_of, parts_of};
@@ -8,10 +8,10 @@ ghost use Rattle.device_tree.specs.Refusals.{IsNestingFault, IsShapeFault, IsWro
 use crate::fault::{TreeFault, TreeReason};
 use crate::pieces::{Piece, PlacedPiece};
 
-/// How many nodes may be inside one another below the root.
+/// Maximum nesting depth below the root.
 const LEVELS: usize = 63;
 
-/// The first piece, and those behind it.
+/// Returns the first piece and the rest.
 fn first_of<'a>(pieces: &'a [PlacedPiece<'a>]) -> Option<(Piece<'a>, &'a [PlacedPiece<'a>])>
     ensures parts { MatchOption result (parts_of pieces.now ≡ []) (λ x.
         parts_of pieces.now ≡ part_of x.0 ∷ parts_of x.1.now) }
@@ -21,7 +21,7 @@ fn first_of<'a>(pieces: &'a [PlacedPiece<'a>]) -> Option<(Piece<'a>, &'a [Placed
     Some((first.piece, later))
 }
 
-/// What is behind the beginning of a node.
+/// Returns the pieces after the start of a node, if it is first.
 fn after_begin<'a>(pieces: &'a [PlacedPiece<'a>]) -> Option<&'a [PlacedPiece<'a>]>
     ensures parts { MatchOption result (BeginsNoNode (parts_of pieces.now))
         (λ later. (name : List ℕ)
@@ -34,7 +34,7 @@ fn after_begin<'a>(pieces: &'a [PlacedPiece<'a>]) -> Option<&'a [PlacedPiece<'a>
     }
 }
 
-/// What is behind the beginning of a root, which has no name.
+/// Returns the pieces after the start of a root, whose name is empty, if it is first.
 fn after_root<'a>(pieces: &'a [PlacedPiece<'a>]) -> Option<&'a [PlacedPiece<'a>]>
     ensures parts { MatchOption result
         ((later : List Part) → parts_of pieces.now ≡ begins [] ∷ later → ⊥)
@@ -52,7 +52,7 @@ fn after_root<'a>(pieces: &'a [PlacedPiece<'a>]) -> Option<&'a [PlacedPiece<'a>]
     }
 }
 
-/// What is behind the end of a node.
+/// Returns the pieces after the end of a node, if it is first.
 fn after_end<'a>(pieces: &'a [PlacedPiece<'a>]) -> Option<&'a [PlacedPiece<'a>]>
     ensures parts { MatchOption result
         ((later : List Part) → parts_of pieces.now ≡ ends ∷ later → ⊥)
@@ -65,7 +65,7 @@ fn after_end<'a>(pieces: &'a [PlacedPiece<'a>]) -> Option<&'a [PlacedPiece<'a>]>
     }
 }
 
-/// What is behind a property.
+/// Returns the pieces after a property, if it is first.
 fn after_property<'a>(pieces: &'a [PlacedPiece<'a>]) -> Option<&'a [PlacedPiece<'a>]>
     ensures { MatchOption result (HasNoProperty (parts_of pieces.now))
         (λ later. (property : Setting)
@@ -77,7 +77,7 @@ fn after_property<'a>(pieces: &'a [PlacedPiece<'a>]) -> Option<&'a [PlacedPiece<
     }
 }
 
-/// What is behind that many pieces, which are there.
+/// Returns the pieces after the first `n`, of which there are at least `n`.
 fn after<'a>(pieces: &'a [PlacedPiece<'a>], n: usize) -> &'a [PlacedPiece<'a>]
     requires { n ≤ length pieces.now }
     ensures parts { parts_of result.now ≡ drop n (parts_of pieces.now) }
@@ -86,7 +86,7 @@ fn after<'a>(pieces: &'a [PlacedPiece<'a>], n: usize) -> &'a [PlacedPiece<'a>]
     &pieces[n..]
 }
 
-/// How many properties are in front.
+/// Counts the properties at the front.
 fn properties_len<'a>(pieces: &'a [PlacedPiece<'a>]) -> usize
     ensures within { result ≤ length pieces.now }
     ensures properties { (properties : List Setting) × (parts_of pieces.now
@@ -103,7 +103,7 @@ fn properties_len<'a>(pieces: &'a [PlacedPiece<'a>]) -> usize
     at
 }
 
-/// Where the first of the pieces is, or the end of them all.
+/// Returns the offset of the first piece, or `end` if there is none.
 fn offset_of<'a>(pieces: &'a [PlacedPiece<'a>], end: usize) -> usize
     ensures { result ≡ offset_of pieces.now end }
 {
@@ -113,7 +113,7 @@ fn offset_of<'a>(pieces: &'a [PlacedPiece<'a>], end: usize) -> usize
     }
 }
 
-/// One level of nodes too many: it begins with the first of these pieces.
+/// Returns the fault for nodes that are nested too deeply, from the first of these pieces on.
 fn too_deep<'a>(pieces: &'a [PlacedPiece<'a>], end: usize) -> TreeFault
     ensures reason { result.reason ≡ TreeReason.TooDeep }
     ensures offset { result.offset ≡ offset_of pieces.now end }
@@ -124,7 +124,7 @@ fn too_deep<'a>(pieces: &'a [PlacedPiece<'a>], end: usize) -> TreeFault
     }
 }
 
-/// Why a node does not end at the piece in front.
+/// Returns the fault for a node that does not end before the first of these pieces.
 fn not_ended<'a>(pieces: &'a [PlacedPiece<'a>], end: usize) -> TreeFault
     ensures reason { result.reason ≡ open_reason (parts_of pieces.now) }
     ensures offset { result.offset ≡ offset_of pieces.now end }
@@ -140,7 +140,7 @@ fn not_ended<'a>(pieces: &'a [PlacedPiece<'a>], end: usize) -> TreeFault
     }
 }
 
-/// How many pieces the nodes in front are, of at most that many levels.
+/// Counts the pieces of the nodes at the front, which have at most `levels` levels.
 fn nodes_len<'a>(
     pieces: &'a [PlacedPiece<'a>],
     levels: usize,
@@ -176,7 +176,7 @@ fn nodes_len<'a>(
     Ok(at)
 }
 
-/// Where the pieces are no tree, the fault. They end at that offset.
+/// Checks that the pieces, which end at offset `end`, form a tree.
 pub(crate) fn check_tree<'a>(pieces: &'a [PlacedPiece<'a>], end: usize) -> Result<(), TreeFault>
     ensures ok { OnOk result ((tree : Tree) × IsTreeOf (parts_of pieces.now) tree) }
     ensures refused { OnErr result ((tree : Tree) → IsTreeOf (parts_of pieces.now) tree → ⊥) }

@@ -1,4 +1,4 @@
-//! What one node says: its own ranges, and how the addresses of its children come to the root.
+//! The ranges of one node, and the translation of its children's addresses to the root.
 
 ghost use Rattle.std.specs.Prelude.{◌≡◌, ◌≤◌, ◌++◌, ℕ, List, Some, IfErr, IfOk, OnOk, option_map};
 ghost use Rattle.device_tree.specs.Windows.{path_of};
@@ -12,7 +12,7 @@ use crate::rows::{RowFault, rows_of};
 use crate::ways::{Way, windows_of};
 use std::alloc::Global;
 
-/// Notes the registers of a node of a kind.
+/// Appends the registers of a node of a known kind.
 fn note_registers<'a>(
     alloc: Global,
     reg: &[u8],
@@ -34,7 +34,7 @@ fn note_registers<'a>(
     note_rows(alloc, rows.as_slice(), way, node, found)
 }
 
-/// Notes the registers of a node, if they are of a kind.
+/// Appends the registers of a node, if it has a kind.
 pub(crate) fn note_own<'a>(
     alloc: Global,
     reg: Option<&[u8]>,
@@ -108,7 +108,7 @@ pub(crate) fn inner_way(
     }
 }
 
-/// Where the children of a node are.
+/// Returns the place of the children of a node.
 pub(crate) fn place_by(place: Place, is_reserved: bool, is_live: bool, has_way: bool) -> Place
     ensures { result ≡ place_by place is_reserved is_live has_way }
 {

@@ -1,4 +1,4 @@
-//! The ranges of memory and devices that a tree says.
+//! The ranges of memory and devices that a tree describes.
 
 ghost use Rattle.std.specs.Prelude.{◌≡◌, ◌≤◌, ◌++◌, List, IfErr, IfOk, OnOk, codes, length};
 ghost use Rattle.device_tree.specs.Pieces.{Part, parts_of};
@@ -23,7 +23,7 @@ use crate::rows::RowFault;
 use crate::ways::Way;
 use std::alloc::Global;
 
-/// Notes what a node itself says.
+/// Appends the ranges of the node itself.
 fn note_head<'a>(
     alloc: Global,
     head: &Head<'a>,
@@ -44,7 +44,7 @@ fn note_head<'a>(
     note_own(alloc, reg, bus, node, found)
 }
 
-/// Notes what the nodes in front say, and answers the pieces behind them.
+/// Appends the ranges of the nodes at the front, and returns the pieces after them.
 fn note_nodes<'a>(
     alloc: Global,
     pieces: &'a [PlacedPiece<'a>],
@@ -96,11 +96,10 @@ fn note_nodes<'a>(
     Ok(rest)
 }
 
-/// The ranges of memory and devices that the tree of these pieces says, in its order.
+/// Returns the ranges of memory and devices that the tree of these pieces describes, in its order.
 ///
-/// Refused at the first node whose cells are no numbers from 0 to 4, whose `reg` counts and has no rows, or whose `ranges` has
-/// none though addresses there have at most two cells.
-/// Memory can be refused for each range and each row.
+/// Fails at the first node whose cells are not numbers from 0 to 4, whose `reg` is used and has invalid rows, or whose
+/// `ranges` has invalid rows and addresses of at most two cells. Each range and each row allocates.
 pub fn ranges_of<'a>(
     alloc: Global,
     pieces: &'a [PlacedPiece<'a>],
@@ -135,7 +134,7 @@ pub fn ranges_of<'a>(
     }
 }
 
-/// A tree says one list of ranges at most.
+/// A tree describes at most one list of ranges.
 pub fn one_list_law()
     ensures { (tree : Tree) (ranges others : List Range)
         → TreeSays tree ranges → TreeSays tree others → ranges ≡ others }

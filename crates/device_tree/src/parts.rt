@@ -8,7 +8,7 @@ use crate::rows::{Extent, RowFault};
 use crate::ways::{RowPart, Way};
 use std::alloc::Global;
 
-/// The limit on the steps that translate a row. Each step goes through one window of each bus.
+/// Maximum number of steps to translate a row. Each step goes through one window of each bus.
 const MOST_STEPS: u64 = 64;
 
 /// Returns the number of bytes of an extent whose addresses have 64 bits.

@@ -1,4 +1,4 @@
-//! The structure block: its pieces one by one.
+//! The pieces of the structure block.
 
 ghost use Rattle.std.specs.Prelude.{◌≡◌, ◌+◌, ◌<◌, ◌≤◌, ◌^◌, ◌≢◌, ℕ, List, IfOk, IfErr, MatchResult, length, drop};
 ghost use Rattle.device_tree.specs.declared.pieces.Token.{Token};
@@ -12,7 +12,7 @@ use crate::words::{after, behind, padded, text_in};
 use byteorder::{BigEndian, ByteOrder};
 use std::alloc::Global;
 
-/// The four bytes that a piece begins with.
+/// The token at the start of a piece.
 #[derive(Clone, Copy)]
 pub(crate) enum Token {
     BeginNode,
@@ -25,15 +25,15 @@ pub(crate) enum Token {
 /// A piece of the structure block.
 #[derive(Clone, Copy)]
 pub enum Piece<'a> {
-    /// A node begins, of this name and unit address.
+    /// The start of a node, with its name and unit address.
     Begins(&'a [u8]),
-    /// The node that began last has a property: its name and its value.
+    /// A property of the current node: its name and its value.
     Has(&'a [u8], &'a [u8]),
-    /// The node that began last and has not ended ends.
+    /// The end of the current node.
     Ends,
 }
 
-/// The token in front.
+/// Reads the token at the front.
 fn token_in(bytes: &[u8]) -> Result<Token, TreeReason>
     ensures token { MatchResult result (λ token. BeginsWith bytes.now (token_number token))
         (λ _. (token : Token) → BeginsWith bytes.now (token_number token) → ⊥) }
@@ -53,7 +53,7 @@ fn token_in(bytes: &[u8]) -> Result<Token, TreeReason>
     }
 }
 
-/// The node that begins here, and the rest.
+/// Reads the start of a node at the front, and returns the rest.
 fn node_in<'a>(strings: &[u8], bytes: &'a [u8]) -> Result<(Piece<'a>, &'a [u8]), TreeReason>
     requires { BeginsWith bytes.now 1 }
     ensures part { MatchResult result (λ x.
@@ -70,7 +70,7 @@ fn node_in<'a>(strings: &[u8], bytes: &'a [u8]) -> Result<(Piece<'a>, &'a [u8]),
     Ok((Piece::Begins(name), rest))
 }
 
-/// The property that is here, and the rest.
+/// Reads a property at the front, and returns the rest.
 fn property_in<'a>(strings: &'a [u8], bytes: &'a [u8]) -> Result<(Piece<'a>, &'a [u8]), TreeReason>
     requires { BeginsWith bytes.now 3 }
     ensures part { MatchResult result (λ x.
@@ -96,14 +96,14 @@ fn property_in<'a>(strings: &'a [u8], bytes: &'a [u8]) -> Result<(Piece<'a>, &'a
     Ok((Piece::Has(name, value), rest))
 }
 
-/// What comes next in the block.
+/// The next token of the block: the end, one without a piece, or one with a piece.
 enum Step<'a> {
     Stop,
     Skip(&'a [u8]),
     Take(Piece<'a>, &'a [u8]),
 }
 
-/// The part that a token begins, and the rest.
+/// Reads the piece of a token, and returns the rest.
 fn part_in<'a>(strings: &'a [u8], bytes: &'a [u8], token: Token) -> Result<Step<'a>, TreeReason>
     requires { BeginsWith bytes.now (token_number token) }
     ensures step { MatchResult result (IsStep strings.now bytes.now)
@@ -130,7 +130,7 @@ fn part_in<'a>(strings: &'a [u8], bytes: &'a [u8], token: Token) -> Result<Step<
     }
 }
 
-/// What comes next.
+/// Reads the next token with its piece.
 #[tactic(auto, using(crate::proofs::TreeParts::no_token))]
 fn step_in<'a>(strings: &'a [u8], bytes: &'a [u8]) -> Result<Step<'a>, TreeReason>
     ensures step { MatchResult result (IsStep strings.now bytes.now)
@@ -143,14 +143,14 @@ fn step_in<'a>(strings: &'a [u8], bytes: &'a [u8]) -> Result<Step<'a>, TreeReaso
     }
 }
 
-/// A piece, and its place: the offset of its first byte in the tree.
+/// A piece, and the offset of its first byte in the tree.
 #[derive(Clone, Copy)]
 pub struct PlacedPiece<'a> {
     pub offset: usize,
     pub piece: Piece<'a>,
 }
 
-/// The pieces of a structure block that begins at that offset.
+/// Reads the pieces of a structure block at offset `start`.
 pub(crate) fn pieces_in<'a>(
     alloc: Global,
     strings: &'a [u8],

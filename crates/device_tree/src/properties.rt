@@ -1,4 +1,4 @@
-//! What the properties of a node say.
+//! Values of the properties of a node.
 
 ghost use Rattle.std.specs.Prelude.{◌≡◌, ℕ, List, Option, option_map, codes};
 ghost use Rattle.device_tree.specs.Pieces.{parts_of};
@@ -7,7 +7,7 @@ ghost use Rattle.device_tree.specs.Properties.{cells_in, is_okay, is_okay_value,
 use crate::{Piece, PlacedPiece};
 use byteorder::{BigEndian, ByteOrder};
 
-/// The value of the first property of that name.
+/// Returns the value of the first property with the name.
 pub fn value_of<'a>(properties: &'a [PlacedPiece<'a>], wanted: &[u8]) -> Option<&'a [u8]>
     ensures { option_map (λ value. value.now) result
         ≡ value_in wanted.now (parts_of properties.now) }
@@ -22,7 +22,7 @@ pub fn value_of<'a>(properties: &'a [PlacedPiece<'a>], wanted: &[u8]) -> Option<
     None
 }
 
-/// The number of cells that a value says, or another where there is none.
+/// Returns the number of cells in a value, or `default` if there is no value.
 pub(crate) fn cells_in(value: Option<&[u8]>, default: usize) -> Option<usize>
     ensures { result ≡ cells_in default (option_map (λ bytes. bytes.now) value.entry) }
 {
@@ -39,7 +39,7 @@ pub(crate) fn cells_in(value: Option<&[u8]>, default: usize) -> Option<usize>
     Some(cells)
 }
 
-/// Whether a status says that the node is in use.
+/// Returns whether a `status` means that the node is enabled.
 fn is_okay_value(status: Option<&[u8]>) -> bool
     ensures { result ≡ is_okay_value (option_map (λ bytes. bytes.now) status.entry) }
 {
@@ -52,7 +52,7 @@ fn is_okay_value(status: Option<&[u8]>) -> bool
     }
 }
 
-/// Whether the node is in use.
+/// Returns whether the node is enabled.
 pub(crate) fn is_okay<'a>(properties: &'a [PlacedPiece<'a>]) -> bool
     ensures { result ≡ is_okay (parts_of properties.now) }
 {

@@ -1,4 +1,4 @@
-//! The ranges that a node's own registers are.
+//! The ranges of a node's own registers.
 
 ghost use Rattle.std.specs.Prelude.{◌≡◌, ◌<◌, ◌≤◌, ◌++◌, ◌∷◌, [], ℕ, List, Option, IfErr, MatchOption, OnOk, option_map, codes, map};
 ghost use Rattle.device_tree.specs.Pieces.{parts_of};
@@ -17,7 +17,7 @@ use crate::rows::{Extent, RowFault};
 use crate::ways::{RowPart, Way};
 use std::alloc::Global;
 
-/// A range of addresses, and the node that says so: its name, and the offset at which it begins.
+/// A range of addresses, with the name of its node and the offset at which the node begins.
 #[derive(Clone, Copy)]
 pub struct Found<'a> {
     pub kind: Kind,
@@ -26,7 +26,7 @@ pub struct Found<'a> {
     pub offset: usize,
 }
 
-/// Whether there is a value, and it is these bytes.
+/// Returns whether there is a value with exactly these bytes.
 fn is_value(value: Option<&[u8]>, wanted: &[u8]) -> bool
     ensures { result ≡ is_value wanted.now (option_map (λ bytes. bytes.now) value.entry) }
 {
@@ -36,7 +36,7 @@ fn is_value(value: Option<&[u8]>, wanted: &[u8]) -> bool
     }
 }
 
-/// Whether there is a value.
+/// Returns whether there is a value.
 fn is_there(value: Option<&[u8]>) -> bool
     ensures { result ≡ is_there (option_map (λ bytes. bytes.now) value.entry) }
 {
@@ -46,7 +46,7 @@ fn is_there(value: Option<&[u8]>) -> bool
     }
 }
 
-/// What the registers of a device are.
+/// Returns the kind of a device's registers.
 fn device_by(is_machine: bool) -> Kind
     ensures { result ≡ device_by is_machine }
 {
@@ -56,7 +56,7 @@ fn device_by(is_machine: bool) -> Kind
     Kind::Device
 }
 
-/// What the registers of a node are, by its place and by what it is.
+/// Returns the kind of a node's registers, given its place and type.
 fn kind_by(
     place: Place,
     is_hart: bool,
@@ -100,7 +100,7 @@ fn kind_by(
     }
 }
 
-/// What the registers of a node are, by its place and properties; nothing where its `status` says that it is not in use.
+/// Returns the kind of a node's registers, given its place and properties, or `None` if the node is not enabled.
 pub fn kind_of<'a>(place: Place, properties: &'a [PlacedPiece<'a>]) -> Option<Kind>
     ensures { result ≡ live_kind place (parts_of properties.now) }
 {
@@ -120,7 +120,7 @@ pub fn kind_of<'a>(place: Place, properties: &'a [PlacedPiece<'a>]) -> Option<Ki
     kind_by(place, is_hart, is_memory, is_unmapped, is_machine)
 }
 
-/// Whether the node is a hart: its `device_type` is `cpu`.
+/// Returns whether the node is a hart: its `device_type` is `cpu`.
 pub fn is_hart<'a>(properties: &'a [PlacedPiece<'a>]) -> bool
     ensures { result ≡ has_type (codes "cpu") (parts_of properties.now) }
 {
@@ -130,7 +130,7 @@ pub fn is_hart<'a>(properties: &'a [PlacedPiece<'a>]) -> bool
     )
 }
 
-/// The cells that a node gives its children, where they are numbers up to four.
+/// Returns the cells that a node defines for its children, if they are numbers up to four.
 pub fn cells_of<'a>(properties: &'a [PlacedPiece<'a>]) -> Option<Cells>
     ensures { MatchOption result (HasNoCells (parts_of properties.now))
         (AreCells (parts_of properties.now)) }
@@ -140,7 +140,7 @@ pub fn cells_of<'a>(properties: &'a [PlacedPiece<'a>]) -> Option<Cells>
     Some(Cells { address, size })
 }
 
-/// The limit on the ranges of a tree.
+/// Maximum number of ranges of a tree.
 const MOST_RANGES: usize = 1 << 18;
 
 /// Appends a range.

@@ -11,14 +11,14 @@ use crate::words::after;
 use byteorder::{BigEndian, ByteOrder};
 use std::alloc::Global;
 
-/// Memory that the boot program keeps for itself: its first byte and how many there are.
+/// Memory that the boot program reserves: its first byte and its size.
 #[derive(Clone, Copy, Debug, PartialEq, Eq)]
 pub struct Reservation {
     pub address: u64,
     pub size: u64,
 }
 
-/// The pair in front.
+/// Reads the pair at the front.
 fn pair_in(bytes: &[u8]) -> Reservation
     requires { 16 ≤ length bytes.now }
     ensures address { result.address ≡ double_word_at bytes.now 0 }
@@ -30,14 +30,14 @@ fn pair_in(bytes: &[u8]) -> Reservation
     }
 }
 
-/// Whether it is the pair of zeros that ends the reservations.
+/// Returns whether this is the pair of zeros that ends the reservations.
 fn is_end(pair: Reservation) -> bool
     ensures { IsTrue result ↔ ((pair.address ≡ 0) × (pair.size ≡ 0)) }
 {
     pair.address == 0 && pair.size == 0
 }
 
-/// The reservations in front of bytes that begin at that offset.
+/// Reads the reservations at the front of bytes that begin at offset `start`.
 pub(crate) fn reservations_in(
     alloc: Global,
     bytes: &[u8],

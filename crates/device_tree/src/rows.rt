@@ -1,4 +1,4 @@
-//! The rows of a property: an address and a size in each.
+//! The rows of a property, each an address and a size.
 
 ghost use Rattle.std.specs.Prelude.{◌≡◌, ◌≢◌, ◌+◌, ◌*◌, ◌<◌, ◌≤◌, ◌^◌, ℕ, List, IfErr, IfOk, MatchOption, MatchResult, length, drop};
 ghost use Rattle.device_tree.specs.Cells.{AreRows, number_of, row_len};
@@ -8,27 +8,27 @@ use crate::bytes::{after, number_of};
 use crate::cells::Cells;
 use std::alloc::Global;
 
-/// Where a range of addresses begins, and how many bytes it has.
+/// The start and the size of a range of addresses, in bytes.
 #[derive(Clone, Copy, Debug, PartialEq, Eq)]
 pub struct Extent {
     pub base: u64,
     pub size: u64,
 }
 
-/// Why a property has no rows.
+/// The reason why the rows of a property are invalid.
 #[derive(Clone, Copy, Debug, PartialEq, Eq)]
 pub enum RowFault {
-    /// It has not a whole number of rows, or rows of no cells.
+    /// Its length is not a multiple of a row, or rows have no cells.
     BadLength,
-    /// An address or a size has more than 64 bits.
+    /// An address or a size does not fit in 64 bits.
     LargeNumber,
     /// Translating a row takes too many steps, or the tree has too many ranges.
     TooMany,
-    /// Memory was refused.
+    /// An allocation failed.
     Memory,
 }
 
-/// The row in front.
+/// Reads the row at the front.
 fn row_in(bytes: &[u8], cells: &Cells) -> Option<Extent>
     requires { row_len cells.now ≤ length bytes.now }
     ensures { MatchOption result (IsLargeRow cells.now bytes.now) (λ first.
@@ -40,7 +40,7 @@ fn row_in(bytes: &[u8], cells: &Cells) -> Option<Extent>
     Some(Extent { base, size })
 }
 
-/// The rows of a property.
+/// Reads the rows of a property.
 pub fn rows_of(alloc: Global, bytes: &[u8], cells: &Cells) -> Result<Vec<Extent>, RowFault>
     ensures ok { IfOk result (λ rows. AreRows cells.now bytes.now rows.items) }
     ensures refused { IfErr result (IsRowFault cells.now bytes.now) }

@@ -1,10 +1,10 @@
-//! A small tree, and what is wrong with it where some of its bytes are others.
+//! Tests of a small tree, and of the faults after changes of its bytes.
 
 use crate::{Piece, PlacedPiece, Reservation, TreeFault, TreeReason, read_tree};
 use std::alloc::Global;
 use std::process::Abort;
 
-/// A root with one property, one child with one property, and one reservation. A token of no meaning is before the child.
+/// A root with one property, one child with one property, and one reservation. A NOP token precedes the child.
 const SMALL: [u8; 140] = [
     0xd0, 0x0d, 0xfe, 0xed, 0, 0, 0, 140, 0, 0, 0, 72, 0, 0, 0, 136, 0, 0, 0, 40, // magic, size, places
     0, 0, 0, 17, 0, 0, 0, 16, 0, 0, 0, 0, 0, 0, 0, 4, 0, 0, 0, 64, // versions, hart, sizes
@@ -12,7 +12,7 @@ const SMALL: [u8; 140] = [
     0, 0, 0, 0, 0, 0, 0, 0, 0, 0, 0, 0, 0, 0, 0, 0, // 56: the end of the reservations
     0, 0, 0, 1, 0, 0, 0, 0, // 72: the root begins
     0, 0, 0, 3, 0, 0, 0, 4, 0, 0, 0, 0, 0, 0, 0, 2, // 80: its property
-    0, 0, 0, 4, // 96: no meaning
+    0, 0, 0, 4, // 96: a NOP token
     0, 0, 0, 1, 0x6d, 0x40, 0x30, 0, // 100: the child begins
     0, 0, 0, 3, 0, 0, 0, 1, 0, 0, 0, 2, 0x78, 0, 0, 0, // 108: its property
     0, 0, 0, 2, 0, 0, 0, 2, 0, 0, 0, 9, // 124: the child, the root and the block end
@@ -62,10 +62,10 @@ fn a_small_tree_is_read(rt: HostRuntime) {
     expect_small(&rt, rt.alloc());
 }
 
-/// A byte in place of another.
+/// An offset and the byte to store there.
 type Edit = (usize, u8);
 
-/// What is wrong with the small tree with these bytes, none where nothing is.
+/// Returns the fault of the small tree with these changes, if there is one.
 fn fault_of(alloc: Global, edits: &[Edit]) -> Option<TreeFault> {
     let mut bytes = SMALL;
     for (place, value) in edits {
@@ -79,7 +79,7 @@ fn fault_of(alloc: Global, edits: &[Edit]) -> Option<TreeFault> {
     }
 }
 
-/// One edit, the reason and its offset.
+/// A change, the expected reason and its offset.
 const ROWS: [(Edit, TreeReason, usize); 17] = [
     ((0, 0), TreeReason::BadMagic, 0),
     ((7, 141), TreeReason::BadSize, 4),
@@ -126,13 +126,13 @@ fn nodes_end_and_have_their_properties_first(rt: HostRuntime) {
     assert!(rt; fault_of(rt.alloc(), &[(127, 4)]) == Some(unended));
 }
 
-/// The header of a tree of 856 bytes whose structure block is the rest but for the reservations.
+/// The header of a tree of 856 bytes, in which only the reservations precede the structure block.
 const NESTED: [u8; 40] = [
     0xd0, 0x0d, 0xfe, 0xed, 0, 0, 3, 0x58, 0, 0, 0, 56, 0, 0, 0, 56, 0, 0, 0, 40, // magic, size, places
     0, 0, 0, 17, 0, 0, 0, 16, 0, 0, 0, 0, 0, 0, 0, 0, 0, 0, 3, 0x20, // versions, hart, sizes
 ];
 
-/// What is wrong with nodes inside one another, at most 65. Tokens of no meaning are where the others would be.
+/// Returns the fault of up to 65 nested nodes. NOP tokens replace the nodes that are left out.
 fn fault_of_levels(alloc: Global, levels: usize) -> Option<TreeFault> {
     let mut bytes = [0; 856];
     bytes[..40].copy_from_slice(NESTED.as_slice());

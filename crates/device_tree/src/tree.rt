@@ -17,15 +17,15 @@ use crate::pieces::{PlacedPiece, pieces_in};
 use crate::reservations::{Reservation, reservations_in};
 use std::alloc::Global;
 
-/// A flattened device tree: its memory reservations, and the pieces of its structure block. Names and values are borrowed from
-/// the bytes.
+/// A flattened device tree: its memory reservations, and the pieces of its structure block. Names and values are
+/// borrowed from the bytes.
 #[derive(Drop)]
 pub struct DeviceTree<'a> {
     pub reservations: Vec<Reservation>,
     pub pieces: Vec<PlacedPiece<'a>>,
 }
 
-/// The tree that the bytes are, all of them.
+/// Reads a tree that occupies all of the bytes.
 fn read_whole<'a>(alloc: Global, bytes: &'a [u8]) -> Result<DeviceTree<'a>, TreeFault>
     ensures ok { IfOk result (λ read. (tree : Tree)
         × SpellsTree bytes.now tree read.reservations.items
@@ -62,10 +62,10 @@ fn read_whole<'a>(alloc: Global, bytes: &'a [u8]) -> Result<DeviceTree<'a>, Tree
     }
 }
 
-/// The tree that the bytes begin with: version 17 of the format, and at most 64 nodes inside one another. Bytes behind the size
-/// that its header says are not looked at: what QEMU writes has such.
+/// Reads the tree at the front of the bytes: version 17 of the format, with at most 64 levels of nodes. Ignores bytes
+/// after the header's total size, which QEMU writes.
 ///
-/// Refused with the first fault. Memory can be refused for each reservation and each piece.
+/// Fails with the first fault. Each reservation and each piece allocates.
 pub fn read_tree<'a>(alloc: Global, bytes: &'a [u8]) -> Result<DeviceTree<'a>, TreeFault>
     ensures ok { IfOk result (λ read. (tree : Tree)
         × ReadsAs bytes.now tree read.reservations.items
@@ -90,7 +90,7 @@ pub fn read_tree<'a>(alloc: Global, bytes: &'a [u8]) -> Result<DeviceTree<'a>, T
     }
 }
 
-/// Bytes spell one tree and one list of reservations at most.
+/// Bytes spell at most one tree and one list of reservations.
 pub fn one_tree_law()
     ensures { (bytes : List ℕ) (tree other : Tree) (reservations others : List Reservation)
         → SpellsTree bytes tree reservations → SpellsTree bytes other others

@@ -37,7 +37,7 @@ pub struct RowPart {
     pub root: Option<u64>,
 }
 
-/// The address at the root, if there is one, and the number of bytes from it on that are translated alike.
+/// An address at the root, if there is one, and the number of consecutive bytes that are translated alike.
 #[derive(Clone, Copy)]
 pub struct Step {
     pub root: Option<u64>,
@@ -66,7 +66,7 @@ fn translated(window: &Window, address: u64) -> Option<Step>
     })
 }
 
-/// Returns a number of bytes from an address on of which the window translates none.
+/// Returns a number of bytes from the address on, none of which the window translates.
 fn gap_before(window: &Window, address: u64) -> u64
     requires { has_address window.now address ≡ false }
     ensures some { 0 < result }

@@ -1,11 +1,11 @@
-//! Texts and cuts in bytes.
+//! Slices and texts in bytes.
 
 ghost use Rattle.std.specs.Prelude.{◌≡◌, drop, ◌+◌, ◌<◌, ◌^◌, ◌≤◌, ℕ, List, MatchOption, length};
 ghost use Rattle.device_tree.specs.Words.{BeginsWithText, Leaves, padded, text_len};
 
 use memchr::memchr;
 
-/// How many bytes come before the first zero.
+/// Counts the bytes before the first zero.
 fn text_len(bytes: &[u8]) -> usize
     ensures within { result ≤ length bytes.now }
     ensures len { result ≡ text_len bytes.now }
@@ -13,7 +13,7 @@ fn text_len(bytes: &[u8]) -> usize
     memchr(0, bytes).unwrap_or(bytes.len())
 }
 
-/// The text in front, without the zero that ends it.
+/// Returns the text at the front, without its final zero.
 pub(crate) fn text_in(bytes: &[u8]) -> Option<&[u8]>
     ensures { MatchOption result ((text : List ℕ) → BeginsWithText bytes.now text → ⊥)
         (λ text. BeginsWithText bytes.now text.now) }
@@ -25,7 +25,7 @@ pub(crate) fn text_in(bytes: &[u8]) -> Option<&[u8]>
     Some(&bytes[..len])
 }
 
-/// What comes behind that many bytes, which are there.
+/// Returns the bytes after the first `n`, of which there are at least `n`.
 pub(crate) fn after(bytes: &[u8], n: usize) -> &[u8]
     requires { n ≤ length bytes.now }
     ensures { result.now ≡ drop n bytes.now }
@@ -33,14 +33,14 @@ pub(crate) fn after(bytes: &[u8], n: usize) -> &[u8]
     &bytes[n..]
 }
 
-/// What comes behind that many bytes, where they are there.
+/// Returns the bytes after the first `n`, if there are that many.
 pub(crate) fn behind(bytes: &[u8], n: usize) -> Option<&[u8]>
     ensures { MatchOption result (length bytes.now < n) (λ rest. Leaves bytes.now n rest.now) }
 {
     bytes.get(n..)
 }
 
-/// The number, and more up to a multiple of four.
+/// Rounds a number up to a multiple of four.
 pub(crate) fn padded(n: usize) -> usize
     requires { n < 2 ^ 63 + 1 }
     ensures { result ≡ padded n }

@@ -1,4 +1,4 @@
--- What each call asks before it does anything, in this order.
+-- The checks of each call, in this order.
 use Rattle.std.specs.Prelude.{◌≡◌, ℕ, true, List, false, [], ◌∷◌, ◌≢◌, ◌<◌}
 use Rattle.sbi_decode.specs.declared.world.World.{World}
 use Rattle.sbi_decode.specs.declared.world.World.TheVariants.{Host, Enclave as InEnclave}
@@ -19,7 +19,7 @@ use Rattle.enclave_table.specs.declared.refusal.Refusal.TheVariants.{BadState, B
 use Rattle.measurement.specs.declared.request.Create.{Create}
 use Rattle.platforms.specs.Ranges.{has_page}
 
--- no page is the monitor's or an enclave's, and none is both private and shared
+-- no page belongs to the monitor or to an enclave, and none is both private and shared
 pub record IsClear (table : EnclaveTable) (parts : Create) : Type 0 where
   pub owned :
       (page : ℕ) → is_part parts page ≡ true
@@ -27,8 +27,7 @@ pub record IsClear (table : EnclaveTable) (parts : Create) : Type 0 where
       × ((id : ℕ) (e : Enclave) → Live table id e → is_part e.parts page ≡ false)
   pub apart : (page : ℕ) → is_private parts page ≡ true → is_shared parts page ≡ false
 
--- create: what each check asks, of the parts as they are kept, and the refusal where it does not
--- hold
+-- create: the refusals with their conditions on the stored parts, in order
 abbrev pub create_checks : EnclaveTable → World → Create → List (Refusal × Type 0)
 create_checks table world parts =
     (NotHost, world ≡ Host)
@@ -40,8 +39,8 @@ create_checks table world parts =
     ∷ ((TableFull, (id : ℕ) × IsFree table id)
     ∷ []))))))
 
--- the calls of the host on an enclave: the host asks, the id is live, and the enclave is in a state
--- that the call wants
+-- the calls of the host on an enclave: the caller is the host, the id is live, and the enclave is
+-- in a stage that the call requires
 abbrev pub host_checks : (Stage → Type 0) → EnclaveTable → World → ℕ → List (Refusal × Type 0)
 host_checks Wanted table world id =
     (NotHost, world ≡ Host)
@@ -49,19 +48,19 @@ host_checks Wanted table world id =
     ∷ ((BadState, (e : Enclave) → Live table id e → Wanted e.state)
     ∷ []))
 
--- destroy wants any state but Running
+-- destroy requires any stage except Running
 abbrev pub MayDestroy : Stage → Type 0
 MayDestroy state = state ≢ Running
 
--- a first entry wants Fresh, and a resumption Stopped
+-- run requires Fresh, and resume Stopped
 abbrev pub state_before : Entering → Stage
 state_before Run = Fresh
 state_before Resume = Stopped
 
--- stop and exit: an enclave asks
+-- stop and exit: the caller is an enclave
 abbrev pub leave_checks : World → List (Refusal × Type 0)
 leave_checks world = (NotEnclave, (id : ℕ) × (world ≡ InEnclave id)) ∷ []
 
--- measure, by anyone: the id is live, and k is one of the four words
+-- measure, for any caller: the id is live, and k is the index of one of the four words
 abbrev pub word_checks : EnclaveTable → ℕ → ℕ → List (Refusal × Type 0)
 word_checks table id k = (BadId, (e : Enclave) × Live table id e) ∷ ((BadWord, k < 4) ∷ [])

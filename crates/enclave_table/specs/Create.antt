@@ -1,4 +1,4 @@
--- How create is answered, and what it makes of the table.
+-- The results of create, and its effect on the table.
 use Rattle.std.specs.Prelude.{◌≡◌, ℕ, List, Some, ◌⊎◌}
 use Rattle.sbi_decode.specs.declared.world.World.{World}
 use Rattle.measurement.specs.Requests.{parts_of}
@@ -11,12 +11,12 @@ use Rattle.enclave_table.specs.declared.enclave.Enclave.{Enclave}
 use Rattle.enclave_table.specs.declared.enclave.Stage.TheVariants.{Fresh}
 use Rattle.measurement.specs.declared.request.Create.{Create}
 
--- the enclave as it is made, with its digest
+-- the created enclave, with its digest
 abbrev pub fresh : (Create → List ℕ) → Create → Enclave
 fresh digests parts = record { parts = parts; state = Fresh; digest = digests parts }
 
--- create, where it is not refused: one more enclave under the next id, with the digest that its
--- parts have, and it and the host fit
+-- a successful create: a new enclave under the next id, with the digest of its parts, and both
+-- views fit
 pub record Creates (digests : Create → List ℕ) (old : EnclaveTable) (world : World) (asked : Create)
     (id : ℕ) (new : EnclaveTable) : Type 0 where
   pub passes : AllPass (create_checks old world (parts_of asked))
@@ -25,7 +25,7 @@ pub record Creates (digests : Create → List ℕ) (old : EnclaveTable) (world :
   pub host_fits : FitsIn new.layout.limit (host_view new)
   pub enclave_fits : FitsIn new.layout.limit (enclave_view (parts_of asked))
 
--- the host's view or the enclave's would need more entries than there are
+-- the host's view or the enclave's would need more entries than a hart has
 abbrev pub OutgrowsByCreate : (Create → List ℕ) → EnclaveTable → Create → Type 0
 OutgrowsByCreate digests old asked =
     ((id : ℕ) × IsNextId old id × NeedsMore old.layout.limit

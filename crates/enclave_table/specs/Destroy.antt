@@ -1,4 +1,4 @@
--- How destroy is answered, and what it makes of the table.
+-- The results of destroy, and its effect on the table.
 use Rattle.std.specs.Prelude.{◌≡◌, ℕ, ◌+◌, ◌/◌, None}
 use Rattle.sbi_decode.specs.declared.world.World.{World}
 use Rattle.enclave_table.specs.Enclaves.{EnclaveTable, Live, with_enclave}
@@ -9,8 +9,8 @@ use Rattle.enclave_table.specs.Fewest.{FitsIn}
 use Rattle.enclave_table.specs.declared.enclave.Enclave.{Enclave}
 use Rattle.pmp_encoding.specs.declared.pages.PageRange.{PageRange}
 
--- destroy, where it is not refused: the enclave is gone, its private pages are to be zeroed, and
--- the host fits
+-- a successful destroy: the enclave is removed, its private pages must be zeroed, and the host's
+-- view fits
 pub record Destroys (old : EnclaveTable) (world : World) (id : ℕ) (range : PageRange)
     (new : EnclaveTable) : Type 0 where
   pub passes : AllPass (host_checks MayDestroy old world id)

@@ -6,7 +6,7 @@ use Rattle.platforms.specs.CheckLists.{AllPass}
 use Rattle.enclave_table.specs.Checks.{word_checks}
 use Rattle.enclave_table.specs.declared.enclave.Enclave.{Enclave}
 
--- the table with that digest of an enclave, which is live under that id, and all else as it was
+-- the table with another digest of the enclave that is live under this id
 abbrev pub with_digest : EnclaveTable → ℕ → Enclave → List ℕ → EnclaveTable
 with_digest table id e digest = with_enclave table id (Some (record e { digest = digest }))
 

@@ -1,4 +1,4 @@
--- How many entries the host's view after a creation needs.
+-- The number of entries that the host's view needs after a creation.
 use Rattle.std.specs.Prelude.{◌≡◌, ℕ, Some}
 use Rattle.pmp_match.specs.Meaning.{Needs}
 use Rattle.measurement.specs.Requests.{parts_of}
@@ -7,8 +7,8 @@ use Rattle.enclave_table.specs.Views.{host_view}
 use Rattle.enclave_table.specs.declared.enclave.Enclave.{Enclave}
 use Rattle.measurement.specs.declared.request.Create.{Create}
 
--- the host's view needs that many entries with one more enclave of what is asked for under the next
--- id, whatever its pages hold
+-- the host's view needs n entries after the requested creation under the next id, whatever the
+-- pages contain
 abbrev pub NeedsWithCreated : EnclaveTable → Create → ℕ → Type 0
 NeedsWithCreated table asked n =
     (id : ℕ) (e : Enclave) → IsNextId table id → e.parts ≡ parts_of asked

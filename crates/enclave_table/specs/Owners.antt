@@ -1,4 +1,4 @@
--- Who owns each page.
+-- The owner of each page.
 use Rattle.std.specs.Prelude.{◌≡◌, ℕ, true, false}
 use Rattle.measurement.specs.Requests.{is_private, is_shared, is_part}
 use Rattle.enclave_table.specs.Enclaves.{EnclaveTable, Live}
@@ -7,8 +7,8 @@ use Rattle.enclave_table.specs.declared.owner.Owner.{Owner}
 use Rattle.enclave_table.specs.declared.owner.Owner.TheVariants.{Monitor, Private, Shared, Host}
 use Rattle.platforms.specs.Ranges.{has_page}
 
--- the monitor owns its range, an enclave its text and data, both it and the host what they share,
--- and the host the rest
+-- the monitor owns its range, an enclave its text and data, the enclave and the host together the
+-- shared pages, and the host all other pages
 abbrev pub IsOwner : EnclaveTable → ℕ → Owner → Type 0
 IsOwner table page Monitor = has_page table.layout.monitor page ≡ true
 IsOwner table page (Private id) = (e : Enclave) × Live table id e × (is_private e.parts page ≡ true)

@@ -1,4 +1,4 @@
--- Which tables there are, and the lists of entries that are kept beside them.
+-- The invariant of tables, and of the lists of entries stored with them.
 use Rattle.std.specs.Prelude.{◌≡◌, ℕ, ◌-◌, true, List, slice_index_or, false, [], length}
 use Rattle.pmp_encoding.specs.declared.region.Entry.{Entry}
 use Rattle.prefix_tree.specs.Trees.{PermTree, TreeMeans, IsCanonical}
@@ -15,8 +15,8 @@ use Rattle.enclave_table.specs.declared.enclave.Stage.TheVariants.{Running}
 use Rattle.measurement.specs.declared.request.Create.{Create}
 use Rattle.platforms.specs.Ranges.{has_page}
 
--- each live enclave is as create asked for it, its pages are memory, and none of the monitor's or
--- both private and shared
+-- a live enclave satisfies the checks of create: its pages are memory, none belongs to the monitor,
+-- and none is both private and shared
 pub record IsSound (table : EnclaveTable) (parts : Create) : Type 0 where
   pub counts : HasCounts parts
   pub places : HasPlaces parts
@@ -26,7 +26,7 @@ pub record IsSound (table : EnclaveTable) (parts : Create) : Type 0 where
       → has_page table.layout.monitor page ≡ false
   pub apart : (page : ℕ) → is_private parts page ≡ true → is_shared parts page ≡ false
 
--- what is true of every table: 64 places, and no page belongs to two enclaves
+-- the invariant of every table: 64 places, and no page belongs to two enclaves
 pub record IsTable (table : EnclaveTable) : Type 0 where
   pub layout : IsLayout table.layout
   pub places : length table.enclaves ≡ 64
@@ -34,7 +34,7 @@ pub record IsTable (table : EnclaveTable) : Type 0 where
   pub alone : (id other : ℕ) (e f : Enclave) (page : ℕ) → Live table id e → Live table other f
       → is_part e.parts page ≡ true → is_part f.parts page ≡ true → id ≡ other
 
--- the host, or an enclave that is Running
+-- the world is the host's, or that of a Running enclave
 abbrev pub IsCurrent : EnclaveTable → World → Type 0
 IsCurrent table Host = Unit {0}
 IsCurrent table (InEnclave id) = (e : Enclave) × Live table id e × (e.state ≡ Running)
@@ -45,11 +45,11 @@ pub record Kept : Type 0 where
   pub host_list : List Entry
   pub lists : List (List Entry)
 
--- the list of the enclave of an id
+-- the list of the enclave with this id
 abbrev pub list_at : Kept → ℕ → List Entry
 list_at kept id = slice_index_or kept.lists (id - 1) []
 
--- what is true of what is kept
+-- the invariant of a table with its lists
 pub record IsKept (kept : Kept) : Type 0 where
   pub table : IsTable kept.table
   pub host : IsListOf kept.table.layout.limit (host_view kept.table) kept.host_list

@@ -1,4 +1,4 @@
--- What the host and each enclave may do with each page.
+-- The views of the host and of each enclave.
 use Rattle.std.specs.Prelude.{ℕ, ◌+◌, ◌/◌, ◌||◌, cond, false, option_map, unwrap_or}
 use Rattle.std.specs.List.{list_any}
 use Rattle.pmp_encoding.specs.declared.perm.Perm.{Perm}
@@ -14,8 +14,8 @@ use Rattle.measurement.specs.declared.request.Create.{Create}
 use Rattle.sbi_decode.specs.declared.world.World.TheVariants as world
 use Rattle.platforms.specs.Ranges.{has_page}
 
--- the host: nothing on what is the monitor's or private to an enclave, elsewhere what the platform
--- allows
+-- the host has no access to the monitor's pages and the private pages of enclaves, and elsewhere
+-- the platform's permission
 abbrev pub host_view : EnclaveTable → ℕ → Perm
 host_view table page =
     cond (has_page table.layout.monitor page
@@ -23,14 +23,14 @@ host_view table page =
     table.enclaves) NoAccess
     (platform_perm table.layout page)
 
--- what the host may do on a page, by its owner and by what the platform allows there
+-- the host's permission on a page, given its owner and the platform's permission
 abbrev pub host_perm : Owner → Perm → Perm
 host_perm Monitor allowed = NoAccess
 host_perm (Private id) allowed = NoAccess
 host_perm (Shared id) allowed = allowed
 host_perm Host allowed = allowed
 
--- an enclave: its text can be read and executed, its data and what it shares read and written, and
+-- an enclave may read and execute its text, read and write its data and shared pages, and access
 -- nothing else
 abbrev pub enclave_view : Create → ℕ → Perm
 enclave_view parts page =
@@ -38,7 +38,7 @@ enclave_view parts page =
     (cond (in_range (parts.base / 4096 + parts.text_pages) parts.data_pages page
     || is_shared parts page) ReadWrite NoAccess)
 
--- the view of a world: that of the host, or that of the enclave which runs
+-- the view of a world: the host, or the running enclave
 abbrev pub current_view : EnclaveTable → World → ℕ → Perm
 current_view table world.Host page = host_view table page
 current_view table (world.Enclave id) page =

@@ -1,4 +1,4 @@
-//! The table that is made of a platform.
+//! Boots the table of a platform.
 
 ghost use Rattle.std.specs.Prelude.{◌≡◌, ◌<◌, None, replicate, length, IfOk, IfErr};
 ghost use Rattle.enclave_table.specs.Fewest.{FitsIn};
@@ -14,7 +14,7 @@ use platforms::{BootFault, Platform};
 use prefix_tree::build;
 use std::alloc::Global;
 
-/// No enclave at any place.
+/// Returns 64 places without enclaves.
 fn no_enclaves(alloc: Global) -> Result<Vec<Option<Enclave>>, Memory>
     ensures { IfOk result (λ v. v.items ≡ replicate 64 None) }
 {
@@ -26,7 +26,7 @@ fn no_enclaves(alloc: Global) -> Result<Vec<Option<Enclave>>, Memory>
     Ok(enclaves)
 }
 
-/// No entry at any place.
+/// Returns 64 empty lists of entries.
 fn no_lists(alloc: Global) -> Result<Vec<EntryList>, Memory>
     ensures { IfOk result (λ v. length v.items ≡ 64) }
 {
@@ -38,7 +38,7 @@ fn no_lists(alloc: Global) -> Result<Vec<EntryList>, Memory>
 }
 
 impl Table {
-    /// The table of a platform, with no enclave.
+    /// Returns the table of a platform without enclaves.
     pub fn boot(alloc: Global, platform: Platform) -> Result<Table, BootFault>
         ensures opening { IfOk result (λ table. table.table ≡ opening_table platform) }
         ensures fits { IfOk result (λ table.

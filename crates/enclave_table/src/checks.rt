@@ -1,4 +1,4 @@
-//! The checks of each call, in their order.
+//! The checks of each call in order.
 
 ghost use Rattle.std.specs.Prelude.{◌≡◌, ℕ, ◌<◌, ◌≤◌, ◌↔◌, IsTrue, IfOk, IfErr, true, false};
 ghost use Rattle.enclave_table.specs.Enclaves.{Live, IsNextId};
@@ -16,7 +16,7 @@ use measurement::Create;
 use sbi_decode::World;
 
 impl Table {
-    /// Whether each page is memory.
+    /// Returns whether each page of the enclave is memory.
     fn is_in_ram(&self, parts: &Create) -> bool
         requires { HasCounts parts.now }
         ensures { IsTrue result
@@ -27,7 +27,7 @@ impl Table {
         platform.has_memory(parts.private_pages()) && platform.has_memory(parts.shared_pages())
     }
 
-    /// Whether no page is one of an enclave's.
+    /// Returns whether no page belongs to another enclave.
     fn is_clear_of_enclaves(&self, parts: &Create) -> bool
         requires { HasCounts parts.now }
         ensures { IsTrue result
@@ -46,7 +46,7 @@ impl Table {
         true
     }
 
-    /// Whether each page is the host's, and none both private and shared.
+    /// Returns whether each page belongs to the host, and no page is both private and shared.
     fn is_clear(&self, parts: &Create) -> bool
         requires { HasCounts parts.now }
         ensures { IsTrue result ↔ IsClear self.now.table parts.now }
@@ -56,7 +56,7 @@ impl Table {
             && parts.is_apart()
     }
 
-    /// The id of a new enclave with these parts, or the first check that does not pass.
+    /// Returns the id for a new enclave with these parts, or the refusal of the first check that fails.
     pub(crate) fn checked_create(&self, world: World, parts: &Create) -> Result<u64, Refusal>
         ensures passes { IfOk result (λ id.
             AllPass (create_checks self.now.table world parts.now)) }
@@ -90,7 +90,7 @@ impl Table {
         Ok(id)
     }
 
-    /// The enclave of an id that may be destroyed, or the first check that does not pass.
+    /// Returns the enclave with this id if it may be destroyed, or the refusal of the first check that fails.
     pub(crate) fn checked_destroy(&self, world: World, id: u64) -> Result<Enclave, Refusal>
         ensures passes { IfOk result (λ _.
             AllPass (host_checks MayDestroy self.now.table world id)) }

@@ -15,7 +15,7 @@ use measurement::{Create, Digests, MeasuresPages, Pages};
 use sbi_decode::World;
 
 impl Table {
-    /// The digest of an enclave with these parts.
+    /// Returns the digest of an enclave with these parts.
     pub(crate) fn digest_by<D: Digests>(&mut self, digests: &D, parts: &Create) -> [u8; 32]
         requires counts { HasCounts parts.now }
         requires places { HasPlaces parts.now }
@@ -25,8 +25,8 @@ impl Table {
         digests.digest(&mut self.blank, parts)
     }
 
-    /// Creates an enclave, whose private pages are measured as they are. Nothing is changed before all that can be refused
-    /// has been done.
+    /// Creates an enclave, and measures the current contents of its private pages. Everything that can fail precedes
+    /// the first change.
     pub fn create<P: Pages>(
         &mut self,
         world: World,

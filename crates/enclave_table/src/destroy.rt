@@ -16,7 +16,7 @@ use pmp_encoding::{PageRange, Perm};
 use sbi_decode::World;
 
 impl Table {
-    /// Destroys an enclave. The answer is its private pages, which the caller must zero.
+    /// Destroys an enclave. Returns its private pages, which the caller must zero.
     pub fn destroy(&mut self, world: World, id: u64) -> Result<PageRange, Refusal>
         requires { IsCurrent self.old.table world }
         ensures done { IfOk result (λ range.

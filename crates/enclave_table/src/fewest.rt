@@ -1,4 +1,4 @@
-//! The fewest entries of a view, where the bank has room for them.
+//! The fewest entries of a view, if they fit in a bank.
 
 ghost use Rattle.std.specs.Prelude.{ℕ, ◌+◌, ◌^◌, ◌<◌, ◌≤◌, IfOk, IfErr, length};
 ghost use Rattle.pmp_encoding.specs.declared.perm.Perm.{Perm};
@@ -19,7 +19,7 @@ use pmp_encoding::{Limit, PageRange, Perm};
 use prefix_tree::Tree;
 use std::alloc::Global;
 
-/// The entries of a plan, if there are as many.
+/// Returns the entries of a plan, if they fit.
 fn list_of_plan(limit: Limit, plan: Plan) -> Result<EntryList, Refusal>
     ensures list { (view : ℕ → Perm) → IsFewest view plan.entries
         → IfOk result (λ list. IsListOf limit view list) }
@@ -32,7 +32,7 @@ fn list_of_plan(limit: Limit, plan: Plan) -> Result<EntryList, Refusal>
     Ok(EntryList::of(plan))
 }
 
-/// The fewest entries of an enclave's view, if there are as many.
+/// Returns the fewest entries of an enclave's view, if they fit.
 pub(crate) fn enclave_list(
     alloc: Global,
     limit: Limit,
@@ -57,7 +57,7 @@ pub(crate) struct HostView {
 }
 
 impl Table {
-    /// The host's view with some pages overwritten.
+    /// Returns the host's view with some pages overwritten, if its entries fit.
     pub(crate) fn host_with(&self, pages: PageRange, perm: Perm) -> Result<HostView, Refusal>
         requires { pages.first + pages.count ≤ 2 ^ 44 }
         ensures means { IfOk result (λ host.

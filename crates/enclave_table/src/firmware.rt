@@ -1,5 +1,5 @@
-//! The interface of the monitor's core, which measures pages itself, or has them measured after the creation. Nothing here ties a
-//! digest to the bytes of pages: a caller that has the pages creates an enclave by [`Table::create`].
+//! The interface for the monitor's core, which measures pages itself or gets their digest after the creation. Nothing
+//! here ties a digest to the bytes of pages: a caller that has the pages creates an enclave by [`Table::create`].
 
 ghost use Rattle.std.specs.Prelude.{◌≡◌, ◌-◌, IfOk, IfErr, OnErr, Some};
 ghost use Rattle.enclave_table.specs.Checks.{create_checks};
@@ -19,8 +19,8 @@ use measurement::{Create, Digests};
 use pmp_encoding::Perm;
 use sbi_decode::World;
 
-/// Creates an enclave as [`Table::create`] does, with the digest that `digests` gives its parts. It is asked for last, when nothing
-/// can be refused any more.
+/// Creates an enclave as [`Table::create`] does, with the digest that `digests` supplies for its parts. The digest is
+/// requested last, after everything that can fail.
 pub fn create_by<D: Digests>(
     table: &mut Table,
     world: World,
@@ -50,7 +50,7 @@ pub fn create_by<D: Digests>(
     Ok(id)
 }
 
-/// Gives the enclave at a place another digest, where there is one.
+/// Sets the digest of the enclave at a place, if there is one.
 #[inline(always)]
 fn put_digest(place: &mut Option<Enclave>, digest: &[u8; 32])
     ensures { (e : Enclave) → place.old ≡ Some e
@@ -61,7 +61,7 @@ fn put_digest(place: &mut Option<Enclave>, digest: &[u8; 32])
     }
 }
 
-/// Gives a live enclave the digest of its pages, if they are measured after it was made. Nothing else changes.
+/// Sets the digest of a live enclave whose pages are measured after its creation. Nothing else changes.
 pub fn give_digest(table: &mut Table, id: u64, digest: &[u8; 32])
     requires { (e : Enclave) × Live table.old.table id e }
     ensures { (e : Enclave) → Live table.old.table id e → table.new ≡ record table.old {

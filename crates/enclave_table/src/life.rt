@@ -1,4 +1,4 @@
-//! The enclave is entered and left.
+//! Entering and leaving an enclave.
 
 ghost use Rattle.std.specs.Prelude.{◌≡◌, IfOk, OnOk, IfErr, OnErr, Some};
 ghost use Rattle.enclave_table.specs.Tables.{IsCurrent};
@@ -11,26 +11,26 @@ use crate::refusal::Refusal;
 use crate::table::Table;
 use sbi_decode::World;
 
-/// The two ways in which the host enters an enclave.
+/// The two ways of entering an enclave.
 #[derive(Clone, Copy)]
 pub enum Entering {
-    /// For the first time.
+    /// Enters it for the first time.
     Run,
-    /// After a stop.
+    /// Enters it after a stop.
     Resume,
 }
 
-/// The two ways in which an enclave is left.
+/// The two ways of leaving an enclave.
 #[derive(Clone, Copy)]
 pub enum Leaving {
-    /// It may be resumed.
+    /// Leaves it stopped, so that it may be resumed.
     Stop,
-    /// It is never entered again.
+    /// Leaves it for good.
     Exit,
 }
 
 impl Entering {
-    /// The state that it wants.
+    /// Returns the stage that is required before.
     fn before(self) -> Stage
         ensures { result ≡ state_before self }
     {
@@ -42,7 +42,7 @@ impl Entering {
 }
 
 impl Leaving {
-    /// The state in which the enclave is left.
+    /// Returns the stage of the enclave after it is left.
     fn after(self) -> Stage
         ensures { result ≡ state_after self }
     {
@@ -54,7 +54,7 @@ impl Leaving {
 }
 
 impl Table {
-    /// Notes that the host enters an enclave: for the first time, or again after a stop.
+    /// Records that the host enters an enclave, for the first time or after a stop.
     pub fn enter(&mut self, world: World, id: u64, entering: Entering) -> Result<(), Refusal>
         requires { IsCurrent self.old.table world }
         ensures done { OnOk result
@@ -79,7 +79,8 @@ impl Table {
         Ok(())
     }
 
-    /// Notes that the enclave which runs is left: stopped, by itself or by an interrupt, or ended. The answer is its id.
+    /// Records that the running enclave is left: stopped, by its own call or by an interrupt, or exited. Returns its
+    /// id.
     pub fn leave(&mut self, world: World, leaving: Leaving) -> Result<u64, Refusal>
         requires { IsCurrent self.old.table world }
         ensures done { IfOk result (λ id. Leaves self.old.table world (state_after leaving) id

@@ -1,4 +1,4 @@
-//! How many entries the views after a creation or a destruction need.
+//! The number of entries that the views need after a creation or a destruction.
 
 ghost use Rattle.std.specs.Prelude.{IfOk, IfSome, IfNone, None};
 ghost use Rattle.pmp_match.specs.Meaning.{Needs};
@@ -16,18 +16,18 @@ use permission_map::Memory;
 use pmp_encoding::Perm;
 use sbi_decode::World;
 
-/// How many entries the views after a creation need.
+/// The number of entries that the views need after a creation.
 #[derive(Clone, Copy, PartialEq, Eq)]
 pub struct CreateNeeds {
-    /// Those of the host's view, with the new enclave.
+    /// The number for the host's view without the pages of the new enclave.
     pub host: u32,
-    /// Those of the enclave's own view.
+    /// The number for the enclave's own view.
     pub own: u32,
 }
 
 impl Table {
-    /// How many entries the views after a creation need, whether or not there are as many; nothing where it does not
-    /// pass its other checks. Nothing is changed.
+    /// Returns the number of entries that the views would need after a creation, even if a hart has fewer, or `None` if
+    /// another check fails. Changes nothing.
     pub fn needed_by_create(
         &self,
         world: World,
@@ -55,8 +55,8 @@ impl Table {
         }))
     }
 
-    /// How many entries the host's view after a destruction needs, whether or not there are as many; nothing where it
-    /// does not pass its other checks. Nothing is changed.
+    /// Returns the number of entries that the host's view would need after a destruction, even if a hart has fewer, or
+    /// `None` if another check fails. Changes nothing.
     pub fn needed_by_destroy(&self, world: World, id: u64) -> Result<Option<u32>, Memory>
         ensures passes { IfOk result (λ answer. IfSome answer (λ _.
             AllPass (host_checks MayDestroy self.now.table world id))) }

@@ -1,4 +1,4 @@
-//! The plans of an enclave's view, and of the host's with some pages overwritten.
+//! Plans an enclave's view, and the host's view with some pages overwritten.
 
 ghost use Rattle.std.specs.Prelude.{◌+◌, ◌^◌, ◌≤◌, IfOk};
 ghost use Rattle.pmp_match.specs.Meaning.{IsFewest};
@@ -16,7 +16,7 @@ use pmp_encoding::{PageRange, Perm};
 use prefix_tree::Tree;
 use std::alloc::{AllocError, Global};
 
-/// The plan of an enclave's view.
+/// Plans an enclave's view.
 pub(crate) fn enclave_plan(alloc: Global, parts: &Create) -> Result<Plan, Memory>
     requires counts { HasCounts parts.now }
     requires places { HasPlaces parts.now }
@@ -36,7 +36,7 @@ pub(crate) struct PlannedView {
 }
 
 impl Table {
-    /// The plan of the host's view with some pages overwritten.
+    /// Plans the host's view with some pages overwritten.
     pub(crate) fn host_plan(&self, pages: PageRange, perm: Perm) -> Result<PlannedView, Memory>
         requires { pages.first + pages.count ≤ 2 ^ 44 }
         ensures means { IfOk result (λ planned.

@@ -1,4 +1,4 @@
--- Which list of fewest entries is chosen: from the whole space downwards.
+-- The choice among the lists of fewest entries, from the whole space downwards.
 use Rattle.std.specs.Prelude.{◌≡◌, ℕ, zero, suc, ◌+◌, ◌^◌, ◌==◌, nat_le, List, ◌++◌, if◌then◌else◌}
 use Rattle.std.specs.Prelude.{IsPermutation}
 use Rattle.pmp_encoding.specs.declared.perm.Perm.{Perm}
@@ -9,11 +9,11 @@ use Rattle.prefix_tree.specs.Trees.{PermTree, Uniform, Split}
 use Rattle.entry_planner.specs.Costs.{least_of, cost}
 use Rattle.entry_planner.specs.Placement.{IsOwn}
 
--- what the halves of a split block cost together where they inherit q
+-- the cost of both halves of a split block if they inherit q
 abbrev pub halves_cost : PermTree → PermTree → Perm → ℕ
 halves_cost lower upper q = cost lower q + cost upper q
 
--- the first permission, in the fixed order, whose number is the least
+-- the first permission, in the fixed order, whose number is least
 abbrev pub first_least : (Perm → ℕ) → Perm
 first_least f =
     if f NoAccess == least_of f then NoAccess
@@ -22,8 +22,8 @@ first_least f =
     else (if f Execute == least_of f then Execute
     else (if f ReadExecute == least_of f then ReadExecute else ReadWriteExecute))))
 
--- what the halves of a split block inherit where the block inherits p: p, unless an entry of the
--- block's own saves more than it costs
+-- the permission that the halves of a split block inherit if the block inherits p: p, unless an
+-- entry for the block itself saves more than it costs
 abbrev pub handed_on : PermTree → PermTree → Perm → Perm
 handed_on lower upper p =
     if nat_le (halves_cost lower upper p) (1 + least_of (halves_cost lower upper)) then p
@@ -46,14 +46,14 @@ abbrev pub AreChosen : PermTree → List Entry → Type 0
 AreChosen tree entries = (es : List Entry) × IsChosenAt 44 0 NoAccess tree es
     × IsPermutation es entries
 
--- with those that are chosen for the 2 ^ k pages from `first` on the old entries are the new ones,
--- in some order
+-- the new entries are the old ones and those chosen for the 2 ^ k pages from `first` on, in some
+-- order
 abbrev pub AddsChosen : ℕ → ℕ → Perm → PermTree → List Entry → List Entry → Type 0
 AddsChosen k first p tree old new = (es : List Entry) × IsChosenAt k first p tree es
     × IsPermutation (old ++ es) new
 
--- with those that make these pages' permission q, where they inherit p, the old entries are the new
--- ones, in some order
+-- the new entries are the old ones and the one, if any, that gives these pages, which inherit p,
+-- the permission q, in some order
 abbrev pub AddsOwn : ℕ → ℕ → Perm → Perm → List Entry → List Entry → Type 0
 AddsOwn k first p q old new = (own : List Entry) × IsOwn k first p q own
     × IsPermutation (old ++ own) new

@@ -1,4 +1,4 @@
--- Sets of permissions, as numbers of six bits.
+-- Sets of permissions as numbers of six bits.
 use Rattle.std.specs.Prelude.{ℕ, ◌+◌, ◌*◌, Bool, ◌==◌, if◌then◌else◌}
 use Rattle.std.specs.Int.{bit_at}
 use Rattle.pmp_encoding.specs.declared.perm.Perm.{Perm}
@@ -6,11 +6,11 @@ use Rattle.pmp_encoding.specs.declared.perm.Perm.TheVariants.{NoAccess, Read, Re
 use Rattle.pmp_encoding.specs.declared.perm.Perm.TheVariants.{ReadExecute, ReadWriteExecute}
 use Rattle.pmp_encoding.specs.Perms.{index_of}
 
--- whether the permission is in the set: the bit at its place in the fixed order is set
+-- the set contains the permission: the bit at its position in the fixed order is set
 abbrev pub has : ℕ → Perm → Bool
 has bits p = bit_at bits (index_of p) == 1
 
--- the number of the set of these permissions
+-- 1 for a set bit, otherwise 0
 abbrev pub bit_of : Bool → ℕ
 bit_of b = if b then 1 else 0
 

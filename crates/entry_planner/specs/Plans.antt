@@ -1,5 +1,5 @@
--- A plan: its entries, and what each split block of the tree costs, which is its least number and
--- the permissions under which it costs that.
+-- A plan: its entries, and the cost of each split block of the tree, which consists of the least
+-- number and the permissions that attain it.
 use Rattle.std.specs.Prelude.{◌≡◌, ℕ, zero, suc, ◌+◌, ◌^◌, ◌<◌, List, [], ◌∷◌, ◌++◌, length, All}
 use Rattle.std.specs.Prelude.{if◌then◌else◌}
 use Rattle.pmp_encoding.specs.declared.perm.Perm.{Perm}
@@ -14,54 +14,55 @@ use Rattle.entry_planner.specs.Costs.{cost}
 use Rattle.entry_planner.specs.Order.{AreInOrder}
 use Rattle.entry_planner.specs.PermSets.{has, set_of}
 
--- a list of entries of one form, and what each split block of a tree costs, in preorder
+-- a list of entries in some representation, and the cost of each split block of a tree in preorder
 pub record PlanOf (E : Type 0) : Type 0 where
   pub entries : List E
   pub costs : List BlockCost
 
--- the plan as contracts see it, however it keeps its entries
+-- the plan as contracts see it, in whatever form it stores its entries
 abbrev pub Planned : Type 0
 Planned = PlanOf Entry
 
--- the numbers that a plan answers fit 32 bits
+-- the numbers that a plan returns fit in 32 bits
 pub record AreSmall (plan : Planned) : Type 0 where
   pub entries : length plan.entries < 2 ^ 32
   pub costs : All (λ c. c.least + 1 < 2 ^ 32) plan.costs
 
--- a block's least number, and its best permissions
+-- the least number of a block, and its best permissions
 abbrev pub block_cost : PermTree → BlockCost
 block_cost tree = record { least = least_cost tree; best = record { bits = set_of (is_best tree) } }
 
--- the costs of the split blocks in preorder: the block, its lower half's, its upper half's
+-- the costs of the split blocks in preorder: the block, those of its lower half, those of its upper
+-- half
 abbrev pub costs_in : PermTree → List BlockCost
 costs_in (Uniform q) = []
 costs_in (Split lower upper) = block_cost (Split lower upper) ∷ (costs_in lower ++ costs_in upper)
 
--- what a block costs where it inherits p
+-- the cost of a block that inherits p
 abbrev pub cost_of : BlockCost → Perm → ℕ
 cost_of c p = c.least + (if has c.best.bits p then 0 else 1)
 
--- what the i-th block of the list costs
+-- the cost of the i-th block of the list
 abbrev pub cost_in : List BlockCost → ℕ → Perm → ℕ
 cost_in [] i p = 0
 cost_in (c ∷ costs) zero p = cost_of c p
 cost_in (c ∷ costs) (suc i) p = cost_in costs i p
 
--- the tree with the costs of a list that has its split blocks in preorder from the i-th on
+-- the tree with the costs of a list that contains its split blocks in preorder from the i-th on
 abbrev pub costed : List BlockCost → ℕ → PermTree → BoundTree
 costed costs i (Uniform q) = Leaf q
 costed costs i (Split lower upper) =
     Branch (cost_in costs i) (costed costs (i + 1) lower)
     (costed costs (i + 1 + splits lower) upper)
 
--- the split blocks of the tree, in preorder from the i-th of the list on, cost what they cost
+-- the list contains the right costs of the tree's split blocks, in preorder from the i-th on
 abbrev pub CostsAre : List BlockCost → ℕ → PermTree → Type 0
 CostsAre costs i (Uniform q) = Unit {0}
 CostsAre costs i (Split lower upper) =
     ((p : Perm) → cost_in costs i p ≡ cost (Split lower upper) p) × CostsAre costs (i + 1) lower
     × CostsAre costs (i + 1 + splits lower) upper
 
--- the plan has the entries that are chosen for the tree, in order, and its costs
+-- the plan has the entries chosen for the tree, in order, and the tree's costs
 pub record IsMade (tree : PermTree) (plan : Planned) : Type 0 where
   pub chosen : AreChosen tree plan.entries
   pub order : AreInOrder plan.entries

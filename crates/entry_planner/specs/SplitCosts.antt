@@ -1,4 +1,4 @@
--- The cost that is kept for each split block while entries are placed: its least number of
+-- The cost that is stored for each split block while entries are placed: its least number of
 -- entries, the permissions that are best for both of its halves, and those best for either.
 use Rattle.std.specs.Prelude.{List, [], ◌∷◌, ◌++◌, ◌&&◌, ◌||◌, ◌==◌, if◌then◌else◌}
 use Rattle.entry_planner.specs.declared.costs.BlockCost.{BlockCost}
@@ -16,16 +16,16 @@ split_cost lower upper =
       either = record { bits = set_of (λ p. is_best lower p || is_best upper p) };
     }
 
--- its cost as a block: its best permissions are those for both halves or, if there are none,
--- those for either
+-- the cost as that of a block: its best permissions are those for both halves or, if there are
+-- none, those for either
 abbrev pub as_block : SplitCost → BlockCost
 as_block c = record {
   least = c.least;
   best = record { bits = if c.both.bits == 0 then c.either.bits else c.both.bits };
 }
 
--- the costs of the split blocks in preorder: the block, those of its lower half, those of its
--- upper half
+-- the costs of the split blocks in preorder: the block, those of its lower half, those of its upper
+-- half
 abbrev pub splits_in : PermTree → List SplitCost
 splits_in (Uniform q) = []
 splits_in (Split lower upper) = split_cost lower upper ∷ (splits_in lower ++ splits_in upper)

@@ -1,4 +1,4 @@
-//! The cost of a block: its least number of entries, and the permissions under which it is attained.
+//! The cost of a block: its least number of entries, and the permissions that attain it.
 
 use crate::perm_set::PermSet;
 use crate::sibling::sibling_of;
@@ -6,16 +6,17 @@ use pmp_encoding::Perm;
 use prefix_tree::{Chain, Halving};
 use std::alloc::AllocError;
 
-/// The cost of a block: the least number of entries, and the set of permissions under which it costs that. Under each other
-/// permission it costs one more.
+/// The cost of a block: the least number of entries, and the set of inherited permissions for which it costs that. For
+/// every other permission it costs one more.
 #[derive(Clone, Copy)]
 pub struct BlockCost {
     pub least: u32,
     pub best: PermSet,
 }
 
-/// The cost of a split block, in eight bytes: the least number of entries, the permissions that are best for both of its halves, and
-/// those that are best for either half. It costs the least under those for both or, if there are none, under those for either.
+/// The cost of a split block, in eight bytes: the least number of entries, the permissions that are best for both
+/// halves, and those that are best for either half. The block costs least for those in `both` or, if there are none,
+/// for those in `either`.
 #[derive(Clone, Copy)]
 pub struct SplitCost {
     pub least: u32,
@@ -34,7 +35,7 @@ ghost use Rattle.prefix_tree.specs.Counts.{splits};
 ghost use Rattle.prefix_tree.specs.Chains.{IsChain, chained};
 ghost use Rattle.prefix_tree.specs.Trees.{PermTree, Uniform, Split};
 
-/// For each set and each permission, in the fixed order: 1 if the permission is not in the set, and otherwise 0.
+/// For each set and each permission, in the fixed order: 1 if the permission is not in the set, otherwise 0.
 static MORE: [[u32; 6]; 64] = [
     [1, 1, 1, 1, 1, 1],
     [0, 1, 1, 1, 1, 1],
@@ -102,7 +103,7 @@ static MORE: [[u32; 6]; 64] = [
     [0, 0, 0, 0, 0, 0],
 ];
 
-/// Returns how many more entries a block costs under a permission than under the best: 0 or 1.
+/// Returns 1 if a block costs more for this permission than for the best, otherwise 0.
 #[inline(always)]
 fn more_under(best: PermSet, perm: Perm) -> u32
     ensures value { result ≡ (if has best.bits perm then 0 else 1) }
@@ -121,7 +122,7 @@ impl BlockCost {
     }
 }
 
-/// Returns the cost of a block of one permission: nothing under that permission.
+/// Returns the cost of a uniform block, which is 0 for its own permission.
 fn cost_of_uniform(perm: Perm) -> BlockCost
     ensures { result ≡ block_cost (Uniform perm) }
 {
@@ -132,7 +133,7 @@ fn cost_of_uniform(perm: Perm) -> BlockCost
 }
 
 impl SplitCost {
-    /// Returns its cost as a block.
+    /// Returns the cost as that of a block.
     #[inline(always)]
     pub fn as_block(self) -> BlockCost
         ensures { result ≡ as_block self }
@@ -220,7 +221,7 @@ fn add_chain_costs(
     Ok(cost)
 }
 
-/// Appends the costs of the split blocks of a block, the last in preorder first.
+/// Appends the costs of the split blocks of a block, in reverse preorder.
 pub fn add_costs<H: Halving>(block: &H, costs: &mut Vec<SplitCost>) -> Result<BlockCost, AllocError>
     requires { splits (H.shape block.now) < 2 ^ 20 }
     ensures own { IfOk result (λ cost. cost ≡ block_cost (H.shape block.now)) }

@@ -1,4 +1,4 @@
-//! Laws of costs, and why no list of fewer entries means the view.
+//! Laws of costs, and a proof that no shorter list means the view.
 
 ghost use Rattle.std.specs.Prelude.{◌≡◌, ◌+◌, ◌≤◌, ◌↔◌, ℕ, All, List, if◌then◌else◌};
 ghost use Rattle.pmp_encoding.specs.declared.perm.Perm.{Perm};
@@ -18,14 +18,13 @@ pub fn least_cost_law()
         → Needs view (cost tree NoAccess) }
 {}
 
-/// Each block costs its least number under its best permissions, and one more under each other.
+/// A block costs its least number for its best permissions, and one more for every other.
 pub fn best_law()
     ensures { (tree : PermTree) (p : Perm)
         → cost tree p ≡ least_cost tree + (if is_best tree p then 0 else 1) }
 {}
 
-/// The entries that are chosen for a view end within the first `2 ^ k` pages exactly where no page after these has a
-/// permission.
+/// The entries chosen for a view end within the first `2 ^ k` pages iff no later page has a permission.
 pub fn reach_law()
     ensures { (view : View) (entries : List Entry) (k : ℕ) → k ≤ 44 → Means entries view
         → AreChosen (tree_of view) entries → All (EndsWithin k) entries ↔ HasNoneBehind k view }

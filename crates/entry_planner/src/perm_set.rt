@@ -2,7 +2,7 @@
 
 use pmp_encoding::Perm;
 
-/// A set of permissions: one of the six low bits for each, in the fixed order, with that of no access lowest.
+/// A set of permissions: one of the six low bits for each, in the fixed order, with no access in bit 0.
 #[derive(Clone, Copy)]
 pub struct PermSet {
     pub bits: u8,

@@ -1,4 +1,4 @@
-//! The pass down the tree: which blocks take an entry.
+//! The pass down the tree, which chooses the blocks that get an entry.
 
 use crate::costs::SplitCost;
 use crate::shelves::Shelves;
@@ -25,7 +25,8 @@ ghost use Rattle.entry_planner.specs.SplitCosts.{split_cost, splits_in};
 ghost use Rattle.entry_planner.specs.Shelves.{is_free};
 
 impl PageBlock {
-    fn lower(self) -> PageBlock
+    /// Its lower half.
+    pub fn lower(self) -> PageBlock
         requires split { 0 < self.log2 }
         requires pages { ArePages self.log2 self.first }
         ensures first { result.first ≡ self.first }
@@ -38,7 +39,7 @@ impl PageBlock {
         }
     }
 
-    /// One of the parts that are left where a block is halved so often, by how many come before it.
+    /// Returns one of the equal parts after halving the block `levels` times, by the number of parts that precede it.
     #[inline(always)]
     fn part(self, levels: u32, place: u64) -> PageBlock
         requires levels { levels ≤ self.log2 }
@@ -55,7 +56,8 @@ impl PageBlock {
         }
     }
 
-    fn upper(self) -> PageBlock
+    /// Its upper half.
+    pub fn upper(self) -> PageBlock
         requires split { 0 < self.log2 }
         requires pages { ArePages self.log2 self.first }
         ensures first { result.first ≡ self.first + 2 ^ (self.log2 - 1) }
@@ -69,8 +71,8 @@ impl PageBlock {
     }
 }
 
-/// The permission that the halves of a split block inherit: the first that is best for both, where there is one
-/// and the permission that the block inherits is best for neither; otherwise that one.
+/// Returns the permission that the halves of a split block inherit: the first that is best for both, if there is one
+/// and the permission that the block inherits is best for neither; otherwise the inherited one.
 fn halves_perm(cost: SplitCost, inherited: Perm) -> Perm
     ensures { (low high : PermTree) → cost ≡ split_cost low high
         → result ≡ handed_on low high inherited }
@@ -84,9 +86,9 @@ fn halves_perm(cost: SplitCost, inherited: Perm) -> Perm
     }
 }
 
-/// The entry that gives a block a permission.
+/// Returns the entry that gives a block a permission.
 #[inline(always)]
-fn entry_of(pages: PageBlock, perm: Perm) -> Entry
+pub fn entry_of(pages: PageBlock, perm: Perm) -> Entry
     requires { ArePages pages.log2 pages.first }
     ensures { IsBlockOf pages.log2 pages.first perm result }
 {
@@ -99,7 +101,7 @@ fn entry_of(pages: PageBlock, perm: Perm) -> Entry
     }
 }
 
-/// The entry that gives a block another permission than the inherited one.
+/// Returns the entry that gives a block its permission, unless that is the inherited one.
 #[inline(always)]
 fn own_entry(pages: PageBlock, inherited: Perm, perm: Perm) -> Option<PackedEntry>
     requires { ArePages pages.log2 pages.first }
@@ -113,8 +115,8 @@ fn own_entry(pages: PageBlock, inherited: Perm, perm: Perm) -> Option<PackedEntr
     None
 }
 
-/// Adds the entry that gives a block another permission than the inherited one, which goes before that of the upper half where
-/// this is the lower.
+/// Adds the entry that gives a block its permission, unless that is the inherited one. The entry of a lower half goes
+/// before that of the upper half.
 #[inline(always)]
 fn push_entry_in_order(
     pages: PageBlock,
@@ -131,7 +133,7 @@ fn push_entry_in_order(
     Ok(())
 }
 
-/// The same for the half beside the next block of a chain: no entry of its size has a higher address.
+/// As above, for the half beside the next block of a chain. No entry of its size has a higher address, so it goes last.
 #[inline(always)]
 fn push_entry(
     pages: PageBlock,
@@ -148,7 +150,7 @@ fn push_entry(
     Ok(())
 }
 
-/// How many blocks of its size come before the block of a chain that is reached where the largest is halved so often.
+/// Returns the number of blocks of its size that precede the block of a chain after `depth` halvings.
 #[inline(always)]
 fn place_at(chain: Chain, depth: u32) -> u64
     requires depth { depth ≤ chain.levels }
@@ -158,7 +160,7 @@ fn place_at(chain: Chain, depth: u32) -> u64
     chain.place / pages_of(chain.levels - depth)
 }
 
-/// The place of the other half, by that of one.
+/// Returns the position of the other half, given that of one.
 #[inline(always)]
 fn sibling_index(place: u64) -> u64
     requires { place < 2 ^ 44 }
@@ -215,8 +217,8 @@ fn place_chain<'a, H: Halving>(
     Ok(others)
 }
 
-/// Adds the entries of a block that inherits a permission. The costs of its split blocks come last in the list, the first in
-/// preorder last; what comes before them is handed back.
+/// Adds the entries of a block that inherits a permission. The costs of its split blocks are the last of the list, in
+/// reverse preorder; the costs before them are returned.
 #[cycle(placing)]
 pub fn place_entries<'a, H: Halving>(
     block: &H,
@@ -240,7 +242,7 @@ pub fn place_entries<'a, H: Halving>(
     }
     if let Some((chain, smallest)) = block.chain() {
         if chain.before == inherited && chain.behind == inherited {
-            // No entry is placed on the way down.
+            // No entry is placed on the path down.
             let others = &costs[..costs.len() - chain.levels as usize];
             let block = pages.part(chain.levels, chain.place);
             let rest = place_entries(&smallest, block, inherited, others, entries)?;

@@ -6,9 +6,8 @@ use pmp_encoding::{Entry, PackedEntry, Perm};
 use std::alloc::{AllocError, Global};
 use std::marker::Model;
 
-/// The fewest entries of a tree's view, and what each split block of the tree costs: the numbers that show that no list
-/// of fewer entries means the view. A plan of a map keeps its entries in eight bytes each, as [`PackedEntry`]; contracts see the
-/// same.
+/// The fewest entries of a tree's view, and the cost of each split block of the tree, which proves that no shorter list
+/// means the view. A plan of a map stores each entry in eight bytes, as a [`PackedEntry`]; contracts see the same plan.
 #[derive(Drop)]
 pub struct Plan<E = Entry> {
     pub(crate) entries: Vec<E>,
@@ -31,39 +30,39 @@ ghost use Rattle.entry_planner.specs.SplitCosts.{as_block};
 ghost use Rattle.entry_planner.specs.Plans.{AreSmall, cost_in};
 
 impl<E> Plan<E> {
-    /// The entries, in the order in which they go into a bank: the smaller before the larger, and those of one size by
-    /// rising address.
+    /// Returns the entries in the order in which they go into a bank: by ascending size, and those of one size by
+    /// ascending address.
     pub fn entries(&self) -> &[E]
         ensures { result.now ≡ self.now.entries }
     {
         self.entries.as_slice()
     }
 
-    /// The entries, without the costs.
+    /// Returns the entries without the costs.
     pub fn into_entries(self) -> Vec<E>
         ensures { result.items ≡ self.entries }
     {
         self.entries
     }
 
-    /// The number of entries.
+    /// Returns the number of entries.
     pub fn needed(&self) -> u32
         ensures { result ≡ length self.now.entries }
     {
         self.entries.len() as u32
     }
 
-    /// The number of split blocks of the tree.
+    /// Returns the number of split blocks of the tree.
     pub fn branches(&self) -> usize
         ensures { result ≡ length self.now.costs }
     {
         self.costs.branches()
     }
 
-    /// What the i-th split block costs where it inherits a permission, that of the smallest entry round it: the least
-    /// number of entries that give its pages their permissions there. The tree's split blocks count from 0 in preorder:
-    /// a block, then those of its lower half, then those of its upper half. A block of one permission costs 0 where it
-    /// inherits that one, otherwise 1.
+    /// Returns the cost of the i-th split block if it inherits a permission, that of the smallest entry around it: the
+    /// least number of entries that then give its pages their permissions. The tree's split blocks are numbered from 0
+    /// in preorder: a block, then those of its lower half, then those of its upper half. A uniform block costs 0 if it
+    /// inherits its own permission, otherwise 1.
     pub fn cost(&self, i: usize, perm: Perm) -> u32
         requires { i < length self.now.costs }
         ensures { result ≡ cost_in self.now.costs i perm }
@@ -71,7 +70,7 @@ impl<E> Plan<E> {
         self.costs.cost(i, perm)
     }
 
-    /// What all split blocks cost.
+    /// Returns the costs of all split blocks.
     pub fn costs(&self) -> &SplitCosts
         ensures { result.now ≡ self.now.costs }
     {
@@ -79,7 +78,7 @@ impl<E> Plan<E> {
     }
 }
 
-/// Packed entries, each with its region and its permission.
+/// Unpacks entries.
 fn unpacked(alloc: Global, packed: &[PackedEntry]) -> Result<Vec<Entry>, AllocError>
     ensures { IfOk result (λ entries. entries.items ≡ packed.now) }
 {
@@ -91,7 +90,7 @@ fn unpacked(alloc: Global, packed: &[PackedEntry]) -> Result<Vec<Entry>, AllocEr
 }
 
 impl Plan<PackedEntry> {
-    /// A plan of these entries and costs, the last in preorder first.
+    /// Returns the plan with these entries and costs, the costs in reverse preorder.
     pub(crate) fn new(entries: Vec<PackedEntry>, costs: Vec<SplitCost>) -> Plan<PackedEntry>
         requires { AreSmall
             (record { entries = entries.items; costs = map as_block (reverse costs.items) }) }
@@ -104,7 +103,7 @@ impl Plan<PackedEntry> {
         }
     }
 
-    /// The plan with each entry as its region and its permission. The only error is out of memory.
+    /// Unpacks the entries. Fails only if an allocation fails.
     pub fn unpacked(self, alloc: Global) -> Result<Plan, AllocError>
         ensures { IfOk result (λ plan. plan ≡ self) }
     {

@@ -1,4 +1,4 @@
-//! The plan of a tree or of a map.
+//! Plans a tree or a map.
 
 ghost use Rattle.std.specs.Prelude.{◌≡◌, ◌≤◌, ◌*◌, List, length, All, IfOk, reverse};
 ghost use Rattle.pmp_encoding.specs.declared.perm.Perm.TheVariants.{NoAccess};
@@ -24,7 +24,7 @@ use pmp_encoding::{PackedEntry, Perm};
 use prefix_tree::{Halving, MapBlock, Tree};
 use std::alloc::Global;
 
-/// The entries of the whole space, in which no access is inherited, in order.
+/// Returns the entries of the whole space, which inherits no access, in order.
 fn entries_of<H: Halving>(
     alloc: Global,
     root: &H,
@@ -42,16 +42,16 @@ fn entries_of<H: Halving>(
     Ok(in_order(alloc, placed))
 }
 
-/// The plan of a tree: the fewest entries that mean its view, and what each of its split blocks costs.
+/// Plans a tree: returns the fewest entries that mean its view, and the cost of each of its split blocks.
 ///
-/// The list lets supervisor and user do, at every naturally aligned access in the space, just what the view lets them
-/// do, and no list of entries of any regions in any order that does so is shorter. Its regions are of whole pages, and
-/// the smaller come before the larger, those of one size by rising address. Of the lists with these properties it is
-/// the one of ORTC's pass down: from the whole space, which inherits no access, a block that is split gets an entry
-/// only where that saves more than it costs, for the first permission in the order none, R, RW, X, RX, RWX under which
-/// its halves cost least. The only error is out of memory.
-/// (RISC-V Privileged Architecture, Physical Memory Protection: priority and matching logic. The passes up and down
-/// are those of ORTC, Draves and others, 1999, with permissions for next hops and no access for the default route.)
+/// At every naturally aligned access in the space, the list allows supervisor and user mode exactly what the view
+/// allows, and no list of entries of any regions in any order that does so is shorter. Its regions consist of whole
+/// pages, in order of ascending size and, for one size, of ascending address. Among the lists with these properties it
+/// is the one of ORTC's pass down: starting from the whole space, which inherits no access, a split block gets an entry
+/// only if that saves more than it costs, for the first permission in the order none, R, RW, X, RX, RWX for which its
+/// halves cost least. Fails only if an allocation fails. (RISC-V Privileged Architecture, Physical Memory Protection:
+/// priority and matching logic. The passes up and down are those of ORTC, Draves and others, 1999, with permissions for
+/// next hops and no access for the default route.)
 pub fn plan(alloc: Global, tree: &Tree) -> Result<Plan, Memory>
     ensures fewest { IfOk result (λ plan. IsFewest (view_of_tree tree.now) plan.entries) }
     ensures pages { IfOk result (λ plan. All (λ e. 12 ≤ e.region.log2) plan.entries) }
@@ -69,8 +69,8 @@ pub fn plan(alloc: Global, tree: &Tree) -> Result<Plan, Memory>
     Ok(plan)
 }
 
-/// The plan of a map, as [`plan`] has it for the canonical tree of its view. That tree has at most 44 split blocks for
-/// each of the two ends of a run, and is not made. The entries are kept packed.
+/// Plans a map as [`plan`] does the canonical tree of its view. That tree has at most 44 split blocks for each of the
+/// two ends of a run, and is not built. The entries stay packed.
 pub fn plan_map(alloc: Global, map: &PermissionMap) -> Result<Plan<PackedEntry>, Memory>
     ensures fewest { IfOk result (λ plan. IsFewest (view_of_runs map.now) plan.entries) }
     ensures pages { IfOk result (λ plan. All (λ e. 12 ≤ e.region.log2) plan.entries) }
@@ -93,7 +93,7 @@ pub fn plan_map(alloc: Global, map: &PermissionMap) -> Result<Plan<PackedEntry>,
     Ok(plan)
 }
 
-/// The plan of the space, of which at most that many blocks are split.
+/// Plans the space, which has at most `most` split blocks.
 fn plan_of<H: Halving>(alloc: Global, root: &H, most: usize) -> Result<Plan<PackedEntry>, Memory>
     requires fits { Fits 44 (H.shape root.now) }
     requires splits { splits (H.shape root.now) ≤ most }

@@ -1,9 +1,10 @@
-//! The half beside a block of a chain.
+//! Selects a value for the half beside a block of a chain.
 
 ghost use Rattle.std.specs.Prelude.{◌≡◌, ◌%◌};
 
-/// What belongs to the half beside a block of a chain, by how many blocks of its size come before it: that before an upper half, and
-/// that after a lower one. It is a choice of values alone: a branch on which half it is would often be guessed wrong.
+/// Returns the value for the half beside a block of a chain, given the number of blocks of its size that precede the
+/// block: `before` if the block is an upper half, `behind` if it is a lower one. A selection of values avoids a branch
+/// that would often be mispredicted.
 #[inline(always)]
 pub fn sibling_of<T: Copy>(place: u64, before: T, behind: T) -> T
     ensures upper { place % 2 ≡ 1 → result ≡ before }

@@ -1,4 +1,4 @@
-//! What the split blocks of a tree cost, as a plan keeps it.
+//! The costs of the split blocks of a tree, as a plan stores them.
 
 ghost use Rattle.std.specs.Prelude.{◌≡◌, ◌+◌, ◌^◌, ◌<◌, All, length, map, reverse};
 ghost use Rattle.entry_planner.specs.SplitCosts.{as_block};
@@ -8,11 +8,11 @@ use crate::costs::SplitCost;
 use pmp_encoding::Perm;
 use std::marker::Model;
 
-/// What each split block of a tree costs. The blocks count from 0 in preorder: a block, then those of its lower half, then
-/// those of its upper half.
+/// The cost of each split block of a tree. The blocks are numbered from 0 in preorder: a block, then those of its lower
+/// half, then those of its upper half.
 #[derive(Drop)]
 pub struct SplitCosts {
-    /// The last in preorder comes first.
+    /// In reverse preorder.
     costs: Vec<SplitCost>,
 }
 
@@ -30,7 +30,7 @@ impl Model for SplitCosts {
 }
 
 impl SplitCosts {
-    /// These costs, the last in preorder first.
+    /// Takes the costs in reverse preorder.
     pub(crate) fn new(costs: Vec<SplitCost>) -> SplitCosts
         requires { All (λ d. d.least + 1 < 2 ^ 32) (map as_block (reverse costs.items)) }
         ensures { result ≡ map as_block (reverse costs.items) }
@@ -38,14 +38,14 @@ impl SplitCosts {
         SplitCosts { costs }
     }
 
-    /// How many split blocks there are.
+    /// Returns the number of split blocks.
     pub fn branches(&self) -> usize
         ensures { result ≡ length self.now }
     {
         self.costs.len()
     }
 
-    /// What the i-th split block costs where it inherits a permission, as [`Plan::cost`](crate::Plan::cost) has it.
+    /// Returns the cost of the i-th split block if it inherits a permission, as [`Plan::cost`](crate::Plan::cost) does.
     pub fn cost(&self, i: usize, perm: Perm) -> u32
         requires { i < length self.now }
         ensures { result ≡ cost_in self.now i perm }

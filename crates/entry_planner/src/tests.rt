@@ -1,4 +1,4 @@
-//! What a split block costs, as a plan keeps it.
+//! Tests of the costs of a split block in a plan.
 
 use crate::plans::plan;
 use permission_map::PermissionMap;

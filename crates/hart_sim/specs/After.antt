@@ -1,4 +1,4 @@
--- A machine, after boot made it of a platform and that many events happened to it.
+-- A machine after boot and any number of events.
 use Rattle.std.specs.Prelude.{◌≡◌, ◌≢◌, ℕ, ◌<◌, List, [], ◌∷◌, ◌++◌}
 use Rattle.platforms.specs.Platform.{PlatformLayout, IsLayout}
 use Rattle.hart_trace.specs.declared.event.Event.{Event}
@@ -8,7 +8,7 @@ use Rattle.hart_sim.specs.Machines.{state_of, bank_on, IsJudged, KeepsBanksRight
 use Rattle.hart_sim.specs.States.{opening_state}
 use Rattle.hart_sim.specs.Steps.{IsEvent, Step}
 
--- boot made the machine: the platform keeps its rules, the state is the opening one, and each
+-- boot made the machine: the platform satisfies its rules, the state is the opening one, and each
 -- hart has the fewest entries of its world's view
 pub record IsBooted (platform : PlatformLayout) (machine : Machine) : Type 0 where
   pub rules : IsLayout platform
@@ -16,8 +16,8 @@ pub record IsBooted (platform : PlatformLayout) (machine : Machine) : Type 0 whe
   pub banks : KeepsBanksRight machine
 
 -- an event happens on a hart of the machine: it is a step of its state, an access is judged by the
--- list that it meets, the banks of the other harts stay, and those of the harts that are not marked
--- mean what they should by the fewest entries
+-- list that it meets, the banks of the other harts stay the same, and each hart that is not marked
+-- has the fewest entries of its view
 pub record Happens (old : Machine) (hart : ℕ) (event : Event) (reply : Reply) (new : Machine) :
     Type 0 where
   pub known : hart < (state_of old).table.layout.harts
@@ -27,7 +27,7 @@ pub record Happens (old : Machine) (hart : ℕ) (event : Event) (reply : Reply) 
   pub others : (other : ℕ) → other ≢ hart → bank_on new other ≡ bank_on old other
   pub kept : KeepsBanksRight new
 
--- the machine after boot and these events, each with its hart, which were given these replies
+-- the machine after boot and these events, each with its hart, which got these replies
 pub data After (platform : PlatformLayout) : List (ℕ × Event) → List Reply → Machine → Type 0 where
   booted : {machine : Machine} → IsBooted platform machine → After platform [] [] machine
   happened : {events : List (ℕ × Event)} {replies : List Reply} {old new : Machine}

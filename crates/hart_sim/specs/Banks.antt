@@ -1,4 +1,4 @@
--- The banks that are loaded on the harts, by their numbers: what they mean.
+-- The banks loaded on the harts, by hart number, and their meaning.
 use Rattle.std.specs.Prelude.{◌≡◌, ◌⊎◌, ℕ, ◌<◌, true, false, List, Option, Some}
 use Rattle.pmp_encoding.specs.declared.bank.Bank.{Bank}
 use Rattle.pmp_encoding.specs.declared.perm.Perm.{Perm}
@@ -10,8 +10,8 @@ use Rattle.hart_sim.specs.States.{MachineState}
 use Rattle.enclave_table.specs.Views.{current_view}
 use Rattle.monitor_core.specs.Cores.{list_of}
 
--- the loaded list is one of the fewest that mean the view, and the bank is the one that its entries
--- make: their canonical pairs from entry 0 on, and zero in each other
+-- the loaded list is one of the fewest entries that mean the view, and the bank is the one that
+-- they make: their canonical pairs from entry 0 on, and zero elsewhere
 pub record LoadsFewest (bank : Bank) (view : ℕ → Perm) : Type 0 where
   pub list : List Entry
   pub loaded : HasList bank list
@@ -24,20 +24,20 @@ AreBanksRight s banks =
     (hart : ℕ) (bank : Bank) → hart < s.table.layout.harts → s.marked hart ≡ false
     → banks hart ≡ Some bank → LoadsFewest bank (current_view s.table (s.worlds hart))
 
--- the list that an event on a hart meets: the host's where it is marked, for it loads them first;
--- otherwise what is loaded
+-- the list that an event on a hart meets: the host's if the hart is marked, because it is loaded
+-- first, otherwise the loaded list
 abbrev pub MeetsList : MachineState → Kept → (ℕ → Option Bank) → ℕ → List Entry → Type 0
 MeetsList s kept banks hart list =
     ((s.marked hart ≡ true) × (list ≡ kept.host_list))
     ⊎ ((s.marked hart ≡ false) × (bank : Bank) × (banks hart ≡ Some bank) × HasList bank list)
 
--- the bank of a hart is the one that the list makes that is kept for its world
+-- the bank of a hart is made from the stored list of its world
 abbrev pub IsOwnBank : MachineState → Kept → (ℕ → Option Bank) → ℕ → Type 0
 IsOwnBank s kept banks hart = (bank : Bank) × (banks hart ≡ Some bank)
     × IsBankOf bank bank.limit (list_of kept (s.worlds hart))
 
 -- an event on a hart loads no entries: the hart was not marked, and the table, its world and its
--- bank stay
+-- bank are unchanged
 pub record LoadsNothing (old new : MachineState) (before after : ℕ → Option Bank) (hart : ℕ) :
     Type 0 where
   pub awake : old.marked hart ≡ false

@@ -1,4 +1,4 @@
--- Changes of a state, and what a call puts into registers.
+-- Changes of a state, and the register writes of a call.
 use Rattle.std.specs.Prelude.{ℕ, ◌/◌, true, false, ◌==◌, if◌then◌else◌, List, [], ◌∷◌, Option}
 use Rattle.std.specs.Prelude.{unwrap_or, option_map}
 use Rattle.pmp_encoding.specs.declared.pages.PageRange.{PageRange}
@@ -9,28 +9,28 @@ use Rattle.hart_sim.specs.Memory.{in_range, stored}
 use Rattle.hart_sim.specs.States.{MachineState}
 use Rattle.sbi_decode.specs.Runners.{runner_of}
 
--- words put into registers, one by one
+-- the registers after writing words, one by one
 abbrev pub with_words : RegisterFile → List ℕ → List ℕ → RegisterFile
 with_words file (n ∷ ns) (word ∷ words) = with_words (with_x file n word) ns words
 with_words file _ _ = file
 
--- where the words of a call go: a7, a6 and a0 to a5
+-- the registers of the words of a call: a7, a6 and a0 to a5
 abbrev pub call_places : List ℕ
 call_places = 17 ∷ (16 ∷ (10 ∷ (11 ∷ (12 ∷ (13 ∷ (14 ∷ (15 ∷ [])))))))
 
--- the registers on a hart after a call with these words, which goes on past its instruction
+-- the registers on a hart after a call with these words, with the pc after its instruction
 abbrev pub calling : MachineState → ℕ → List ℕ → RegisterFile
 calling s hart words =
     past_call (with_words (s.registers (runner_of hart (s.worlds hart))) call_places words)
 
--- a value stored, and its page written
+-- the state after storing a value, with its page written
 abbrev pub storing : MachineState → ℕ → ℕ → ℕ → MachineState
 storing s address size value = record s {
   bytes = stored s.bytes address size value;
   written = λ page. if page == address / 4096 then true else s.written page;
 }
 
--- every byte of these pages zero, and the pages not written, where there are any
+-- the state after zeroing these pages, if any, which are then not written
 abbrev pub zeroing : MachineState → Option PageRange → MachineState
 zeroing s pages =
     let zeroed = λ (page : ℕ). unwrap_or

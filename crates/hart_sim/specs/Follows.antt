@@ -1,4 +1,4 @@
--- What becomes of a hart and the saved registers after an event there.
+-- The changes of a hart and the saved registers after an event there.
 use Rattle.std.specs.Prelude.{◌≡◌, Bool, true, false, [], ◌∷◌}
 use Rattle.pmp_encoding.specs.Banks.{HasList, IsBankOf}
 use Rattle.pmp_encoding.specs.Limits.{limit_number}
@@ -14,8 +14,8 @@ use Rattle.monitor_core.specs.declared.set_changes.SetChanges.{SetChanges}
 use Rattle.monitor_core.specs.declared.steps.Core.{Core}
 use Rattle.hart_sim.specs.Parts.{registers_in}
 
--- the hart runs the world that the monitor says, and its bank is the one that the fewest entries of
--- the view of that world make
+-- the hart runs the world that the core assigns, and its bank is made from the fewest entries of
+-- that world's view
 pub record Loads (core : Core) (was now : Hart) : Type 0 where
   pub world : world_of now ≡ worlds_of core (number_of was)
   pub list : HasList (bank_of now) (list_of (core_kept core) (worlds_of core (number_of was)))
@@ -24,9 +24,8 @@ pub record Loads (core : Core) (was now : Hart) : Type 0 where
   pub fewest : IsFewest (current_view (core_kept core).table (worlds_of core (number_of was)))
       (list_of (core_kept core) (worlds_of core (number_of was)))
 
--- the registers on the hart and the saved ones change as the monitor says; the hart loads the
--- entries of its world where that is asked for, and stays in its world with its bank where it is
--- not
+-- the registers on the hart and the saved ones change as the monitor reports. If requested, the
+-- hart loads the entries of its world; otherwise its world and bank stay the same
 pub record Follows (core : Core) (changes : SetChanges) (load : Bool) (was now : Hart)
     (before after : Contexts) : Type 0 where
   pub sets : (who : Runner) → registers_in (now ∷ []) after who

@@ -1,19 +1,18 @@
--- What each part of an event on a hart may rely on, and what it keeps.
+-- The conditions on which each part of an event on a hart relies, and those it preserves.
 use Rattle.std.specs.Prelude.{◌≡◌, ◌≢◌, ◌⊎◌, ℕ, ◌<◌, false}
 use Rattle.monitor_core.specs.Cores.{core_kept}
 use Rattle.hart_sim.specs.declared.parts.MachineParts.{MachineParts}
 use Rattle.hart_sim.specs.Banks.{AreBanksRight, IsOwnBank, LoadsNothing}
 use Rattle.hart_sim.specs.Parts.{FitTogether, state_in, bank_in}
 
--- the hart is one of the platform, and the parts fit together
+-- the hart is one of the platform, and the parts are consistent
 pub record IsOn (parts : MachineParts) (hart : ℕ) : Type 0 where
   pub known : hart < (state_in parts).table.layout.harts
   pub fit : FitTogether parts
 
--- the platform stays, and the parts fit together still; banks that were right are right, those of
--- the other harts stay, and so does the hart's own where table and world stay; where it loads
--- entries, its bank is the one that these make; where the table stays, so does every list that is
--- kept
+-- the platform is unchanged, and the parts are still consistent. Right banks stay right, those of
+-- the other harts are unchanged, and so is the hart's own if table and world are. If the hart loads
+-- entries, its bank is made from them. If the table is unchanged, so is every stored list
 pub record KeepsFrame (old new : MachineParts) (hart : ℕ) : Type 0 where
   pub layout : (state_in new).table.layout ≡ (state_in old).table.layout
   pub fit : FitTogether new

@@ -1,4 +1,4 @@
--- The headline: what holds of a machine after boot and any list of events.
+-- The headline, for a machine after boot and any list of events.
 use Rattle.std.specs.Prelude.{◌≡◌, ◌⊎◌, ℕ, ◌<◌, false, List, Some, [], ◌∷◌, ◌++◌}
 use Rattle.pmp_encoding.specs.declared.bank.Bank.{Bank}
 use Rattle.platforms.specs.Platform.{PlatformLayout}
@@ -20,8 +20,7 @@ abbrev pub EndsOn : ℕ → List (ℕ × Event) → Type 0
 EndsOn hart events = (events ≡ [])
     ⊎ ((before : List (ℕ × Event)) × (event : Event) × (events ≡ before ++ (hart, event) ∷ []))
 
--- one of the events: the machine that those before it left, its reply, the machine that it left,
--- and what it promises
+-- one of the events: the machine before it, its reply, the machine after it, and its promises
 pub record Moment (platform : PlatformLayout) (before : List (ℕ × Event)) (hart : ℕ) (event : Event)
     (after : List (ℕ × Event)) (replies : List Reply) (machine : Machine) : Type 0 where
   pub answered : List Reply
@@ -35,9 +34,9 @@ pub record Moment (platform : PlatformLayout) (before : List (ℕ × Event)) (ha
   pub promises : Promises (state_of old) hart event reply (state_of new)
   pub since : Run (state_of new) after rest (state_of machine)
 
--- the bank of a hart is as its own last event left it, or boot where it had none, and there the
--- bank meant the view of its world by the fewest entries: since then each event was on another
--- hart, whether or not the hart was marked
+-- the bank of a hart is the one that its own last event left, or boot if it had no event. At that
+-- time the bank meant the view of its world by the fewest entries. Every later event was on another
+-- hart, whether or not this hart was marked
 pub record IsLeft (platform : PlatformLayout) (hart : ℕ) (events : List (ℕ × Event))
     (replies : List Reply) (machine : Machine) : Type 0 where
   pub before : List (ℕ × Event)
@@ -55,12 +54,12 @@ pub record IsLeft (platform : PlatformLayout) (hart : ℕ) (events : List (ℕ �
       → LoadsFewest bank (current_view (state_of mid).table ((state_of mid).worlds hart))
   pub stays : bank_on machine hart ≡ bank_on mid hart
 
--- the replies are a run of the small machine, which has no PMP entries, from the opening
--- state. On each hart that is not marked the loaded list means the view of the world there, and no
--- list of any regions in any order that does so is shorter. On each hart, marked or not, the bank
--- is as its own last event, or boot, left it. Each event kept its promises. Each hart is in the
--- host's world or in that of an enclave that is Running, and each of these runs on just one hart.
--- The table is sound, and the platform is the one that was booted
+-- the replies are a run of the small machine, which has no PMP entries, from the opening state. On
+-- each hart that is not marked the loaded list means the view of its world, and no list of any
+-- regions in any order that does so is shorter. On each hart, marked or not, the bank is the one
+-- that its own last event, or boot, left. Each event kept its promises. Each hart is in the host's
+-- world or in that of a Running enclave, and each Running enclave runs on exactly one hart. The
+-- table is sound, and the platform is the one that was booted
 pub record Headline (platform : PlatformLayout) (events : List (ℕ × Event)) (replies : List Reply)
     (machine : Machine) : Type 0 where
   pub run : Run (opening_state platform) events replies (state_of machine)

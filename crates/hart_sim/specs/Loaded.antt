@@ -1,5 +1,4 @@
--- The small machine and the registers that are loaded on its harts, and nothing else of the
--- machine.
+-- The small machine and the banks of its harts, without the rest of the machine.
 use Rattle.std.specs.Prelude.{◌≡◌, ◌≢◌, ℕ, ◌<◌, List, [], ◌∷◌, ◌++◌, Option, Some}
 use Rattle.pmp_encoding.specs.declared.bank.Bank.{Bank}
 use Rattle.platforms.specs.Platform.{PlatformLayout, IsLayout}
@@ -12,9 +11,9 @@ use Rattle.hart_sim.specs.States.{MachineState, opening_state}
 use Rattle.hart_sim.specs.Steps.{IsEvent, Run, Step}
 use Rattle.hart_sim.specs.Worlds.{AreWorlds}
 
--- events that happened, each on its hart: each is a step of the small machine, after it the bank of
--- its own hart means the view of the world there by the fewest entries, and no other bank changed.
--- At first the state is the opening one, and each bank is right
+-- events and their harts: each event is a step of the small machine, after which the bank of its
+-- own hart means the view of the world there by the fewest entries, and no other bank has changed.
+-- Initially the state is the opening one, and each bank is right
 pub data Loaded (platform : PlatformLayout) : List (ℕ × Event) → List Reply → MachineState
     → (ℕ → Option Bank) → Type 0 where
   opened : {banks : ℕ → Option Bank} → IsLayout platform
@@ -29,9 +28,9 @@ pub data Loaded (platform : PlatformLayout) : List (ℕ × Event) → List Reply
       → ((other : ℕ) → other ≢ hart → after other ≡ before other)
       → Loaded platform (events ++ (hart, event) ∷ []) (replies ++ reply ∷ []) new after
 
--- what follows: the replies are a run, and on each hart that is not marked the bank means the view
--- of the world there by the fewest entries, though an event loads entries on its own hart alone.
--- The worlds and the table are sound, and the platform is the one that was booted
+-- the consequences: the replies are a run, and on each hart that is not marked the bank means the
+-- view of the world there by the fewest entries, although an event loads entries only on its own
+-- hart. The worlds and the table are sound, and the platform is the one that was booted
 pub record StaysRight (platform : PlatformLayout) (events : List (ℕ × Event))
     (replies : List Reply) (s : MachineState) (banks : ℕ → Option Bank) : Type 0 where
   pub run : Run (opening_state platform) events replies s

@@ -1,4 +1,4 @@
--- The machine as its caller sees it: its state, and the PMP registers that are loaded on each hart.
+-- The machine as seen by its caller: its state, and the PMP registers loaded on each hart.
 use Rattle.std.specs.Prelude.{◌≡◌, ◌⊎◌, ◌↔◌, ℕ, List, Err, Option}
 use Rattle.pmp_encoding.specs.declared.bank.Bank.{Bank}
 use Rattle.pmp_encoding.specs.declared.region.Entry.{Entry}
@@ -17,21 +17,20 @@ use Rattle.hart_sim.specs.Parts.{state_in, bank_in}
 use Rattle.hart_sim.specs.States.{MachineState, awoken}
 use Rattle.hart_sim.specs.Steps.{DoesBy}
 
--- the state of the machine. What it is, its observers show: its table, the world and the registers
--- on each hart, the marks, and the byte at each address
+-- the state of the machine, as its observers show it: the table, the world and the registers on
+-- each hart, the marks, and the byte at each address
 unfoldable pub state_of : Machine → MachineState
 state_of machine = state_in machine.parts
 
--- its table of enclaves, with the list of entries that is kept for each view, which `table` shows
+-- the table of enclaves, with the stored list of entries of each view, which `table` shows
 unfoldable pub kept_of : Machine → Kept
 kept_of machine = cores.core_kept machine.parts.core
 
--- the PMP registers that are loaded on a hart, which `bank` shows
+-- the PMP registers loaded on a hart, which `bank` shows
 unfoldable pub bank_on : Machine → ℕ → Option Bank
 bank_on machine = bank_in machine.parts
 
--- an access is a fault exactly where the list that it meets says so, and with the cause that it
--- says
+-- an access faults iff the list that it meets denies it, with the same cause
 abbrev pub IsJudged : Machine → ℕ → Event → Reply → Type 0
 IsJudged machine hart event reply =
     (access : Access) (value : ℕ) (list : List Entry) (cause : Cause)
@@ -39,20 +38,20 @@ IsJudged machine hart event reply =
     → MeetsList (state_of machine) (kept_of machine) (bank_on machine) hart list
     → (reply ≡ replies.Fault cause) ↔ Judges list access (Err cause)
 
--- on every machine an event does what it does, and an access what the list that it meets says of
--- it, once the mark is taken away
+-- on every machine, after the mark is removed, an access has the effect decided by the list that it
+-- meets, and any other event has its usual effect
 abbrev pub DoesByList : Machine → ℕ → Event → Reply → Machine → Type 0
 DoesByList old hart event reply new =
     DoesBy (MeetsList (state_of old) (kept_of old) (bank_on old) hart) event
     (awoken (state_of old) hart) hart reply (state_of new)
 
--- what boot makes and every step keeps, and what holds no more once another bank was put in place:
--- the bank of each hart that is not marked means the view of its world by the fewest entries
+-- the bank of each hart that is not marked means the view of its world by the fewest entries. Boot
+-- establishes this and every step preserves it; replacing a bank voids it
 abbrev pub KeepsBanksRight : Machine → Type 0
 KeepsBanksRight machine = AreBanksRight (state_of machine) (bank_on machine)
 
--- on every machine, whatever bank was put in place before, an event on a hart leaves there the bank
--- that the list of its world makes, or it loads no entries
+-- on every machine, whatever banks were replaced, an event on a hart leaves there the bank made
+-- from the list of its world, or loads no entries
 abbrev pub LoadsExactly : Machine → ℕ → Machine → Type 0
 LoadsExactly old hart new = IsOwnBank (state_of new) (kept_of new) (bank_on new) hart
     ⊎ LoadsNothing (state_of old) (state_of new) (bank_on old) (bank_on new) hart

@@ -1,4 +1,4 @@
--- Memory: a byte at each address, and the pages that were written.
+-- Memory: a byte at each address, and the written pages.
 use Rattle.std.specs.Prelude.{ℕ, zero, suc, ◌+◌, ◌-◌, ◌*◌, ◌/◌, ◌%◌, Bool, if◌then◌else◌, List, []}
 use Rattle.std.specs.Prelude.{◌∷◌, is_some}
 use Rattle.measurement.specs.Digests.{measured}
@@ -13,21 +13,21 @@ unfoldable pub bytes_at : (ℕ → ℕ) → ℕ → ℕ → List ℕ
 bytes_at memory address zero = []
 bytes_at memory address (suc count) = memory address ∷ bytes_at memory (address + 1) count
 
--- the digest that an enclave gets which is created: that of its private pages as they are in memory
+-- the digest of a new enclave: that of the current contents of its private pages
 abbrev pub measured_in : (ℕ → ℕ) → Create → List ℕ
 measured_in memory = measured (λ page. bytes_at memory (page * 4096) 4096)
 
--- the number that bytes are, the lowest first
+-- the little-endian number of bytes
 abbrev pub number_of_bytes : List ℕ → ℕ
 number_of_bytes [] = 0
 number_of_bytes (byte ∷ bytes) = byte + 256 * number_of_bytes bytes
 
--- the memory with the lowest bytes of a value put at an address, the lowest first
+-- the memory after storing the lowest bytes of a value at an address, lowest first
 abbrev pub stored : (ℕ → ℕ) → ℕ → ℕ → ℕ → ℕ → ℕ
 stored memory address size value a = if in_range address size a then byte_of value (a - address)
     else memory a
 
--- the memory with every byte of some pages zero
+-- the memory with these pages zeroed
 abbrev pub zeroed : (ℕ → ℕ) → ℕ → ℕ → ℕ → ℕ
 zeroed memory first count a = if in_range first count (a / 4096) then 0 else memory a
 
@@ -35,6 +35,6 @@ zeroed memory first count a = if in_range first count (a / 4096) then 0 else mem
 abbrev pub byte_at : Memory → ℕ → ℕ
 byte_at memory a = byte_in (page_in memory (a / 4096)) (a % 4096)
 
--- whether a page was written
+-- the page has been written
 abbrev pub is_written : Memory → ℕ → Bool
 is_written memory page = is_some (page_in memory page)

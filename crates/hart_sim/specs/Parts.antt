@@ -1,5 +1,4 @@
--- The parts of the machine: the state and the banks that they show, and what is true of them
--- together.
+-- The parts of the machine: the state and the banks that they represent, and their invariant.
 use Rattle.std.specs.Prelude.{◌≡◌, ℕ, List, [], ◌∷◌, length, Option, Some, slice_get}
 use Rattle.std.specs.Prelude.{if◌then◌else◌, option_map, unwrap_or}
 use Rattle.pmp_encoding.specs.declared.bank.Bank.{Bank}
@@ -20,18 +19,18 @@ use Rattle.hart_sim.specs.declared.parts.MachineParts.{MachineParts}
 use Rattle.hart_sim.specs.Memory.{byte_at, is_written}
 use Rattle.hart_sim.specs.States.{MachineState}
 
--- the registers of a host or an enclave: those of the hart that runs it, or else the saved ones
+-- the registers of a host or an enclave: those of the hart that runs it, otherwise the saved ones
 abbrev pub registers_in : List Hart → Contexts → Runner → RegisterFile
 registers_in [] contexts who = unwrap_or (saved_of contexts who) zeros
 registers_in (hart ∷ harts) contexts who =
     if is_same who (runner_of (number_of hart) (world_of hart)) then registers_of hart
     else registers_in harts contexts who
 
--- the state that the monitor's core and the registers show
+-- the state that the monitor's core and the registers represent
 abbrev pub core_in : MachineParts → MonitorState
 core_in parts = core_state parts.core (registers_in parts.harts parts.contexts)
 
--- the state that the monitor and memory show
+-- the state that the monitor and memory represent
 abbrev pub shown : MonitorState → Memory → MachineState
 shown core memory = record {
   table = core.table;
@@ -42,7 +41,7 @@ shown core memory = record {
   marked = core.marked;
 }
 
--- the state that the parts of a machine are
+-- the state that the parts of a machine represent
 abbrev pub state_in : MachineParts → MachineState
 state_in parts = shown (core_in parts) parts.memory
 
@@ -50,24 +49,24 @@ state_in parts = shown (core_in parts) parts.memory
 abbrev pub bank_at : List Hart → ℕ → Option Bank
 bank_at harts hart = option_map bank_of (slice_get harts hart)
 
--- the same in the parts of a machine
+-- the bank of a hart, in the parts of a machine
 abbrev pub bank_in : MachineParts → ℕ → Option Bank
 bank_in parts hart = bank_at parts.harts hart
 
--- a hart has its number, runs the world that the monitor says, and has as many entries as the
--- platform says
+-- a hart has its number, runs the world that the core assigns, and has the platform's number of
+-- entries
 pub record IsHart (hart : Hart) (place : ℕ) (there : World) (limit : Limit) : Type 0 where
   pub number : number_of hart ≡ place
   pub world : world_of hart ≡ there
   pub limited : limit_number (bank_of hart).limit ≡ limit_number limit
 
--- there are four harts, each in its place
+-- there are four harts, each at its index
 pub record AreHarts (harts : List Hart) (worlds : ℕ → World) (limit : Limit) : Type 0 where
   pub four : length harts ≡ 4
   pub each : (i : ℕ) (hart : Hart) → slice_get harts i ≡ Some hart
       → IsHart hart i (worlds i) limit
 
--- the harts are in the worlds that the monitor's core says
+-- the harts are in the worlds that the monitor's core assigns
 abbrev pub FitTogether : MachineParts → Type 0
 FitTogether parts = AreHarts parts.harts (worlds_of parts.core)
     (core_kept parts.core).table.layout.limit

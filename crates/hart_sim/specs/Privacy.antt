@@ -1,4 +1,4 @@
--- What an enclave keeps to itself.
+-- The privacy of an enclave.
 use Rattle.std.specs.Prelude.{◌≡◌, ◌≢◌, ◌⊎◌, ℕ, ◌+◌, ◌/◌, ◌<◌, ◌≤◌, true, false, List, [], ◌∷◌, Ok}
 use Rattle.std.specs.Prelude.{None, if◌then◌else◌}
 use Rattle.pmp_encoding.specs.declared.perm.Perm.TheVariants.{NoAccess}
@@ -29,8 +29,8 @@ pub record RunsOn (s : MachineState) (hart id : ℕ) (e : Enclave) : Type 0 wher
   pub running : e.state ≡ Running
   pub unmarked : s.marked hart ≡ false
 
--- it cannot tell one state from the other: its parts and registers, and the bytes and written pages
--- of its view, are the same
+-- the enclave cannot tell the two states apart: its parts and registers, and the bytes and written
+-- pages of its view, are the same
 pub record LooksSame (id : ℕ) (e f : Enclave) (s other : MachineState) : Type 0 where
   pub parts : e.parts ≡ f.parts
   pub registers : s.registers (EnclaveOf id) ≡ other.registers (EnclaveOf id)
@@ -39,7 +39,7 @@ pub record LooksSame (id : ℕ) (e f : Enclave) (s other : MachineState) : Type 
   pub written : (page : ℕ) → enclave_view e.parts page ≢ NoAccess
       → s.written page ≡ other.written page
 
--- nothing but these changed
+-- only the enclave's registers, and bytes and pages of its view, changed
 pub record ChangesOwn (id : ℕ) (e : Enclave) (old new : MachineState) : Type 0 where
   pub table : new.table ≡ old.table
   pub worlds : new.worlds ≡ old.worlds
@@ -50,14 +50,14 @@ pub record ChangesOwn (id : ℕ) (e : Enclave) (old new : MachineState) : Type 0
       → new.written page ≡ old.written page
   pub marked : new.marked ≡ old.marked
 
--- what an enclave does by itself: accesses, and settings of registers
+-- the event is one of the enclave alone: an access, or a setting of a register
 abbrev pub IsOwn : Event → Type 0
 IsOwn (events.Access a value) = a.mode ≢ Machine
 IsOwn (events.Reg n value) = n < 32
 IsOwn (events.Ecall words) = ⊥
 IsOwn events.Irq = ⊥
 
--- events on one hart, one after the other, their replies, and the state after them
+-- consecutive events on one hart, their replies, and the state after them
 abbrev pub RunsThrough : ℕ → MachineState → List Event → List Reply → MachineState → Type 0
 RunsThrough hart old [] [] new = new ≡ old
 RunsThrough hart old (event ∷ events) (reply ∷ replies) new = (mid : MachineState)
@@ -65,14 +65,14 @@ RunsThrough hart old (event ∷ events) (reply ∷ replies) new = (mid : Machine
 RunsThrough hart old [] (reply ∷ replies) new = ⊥
 RunsThrough hart old (event ∷ events) [] new = ⊥
 
--- each event is one of its own
+-- each event is one of the enclave alone
 abbrev pub AreOwn : List Event → Type 0
 AreOwn [] = Unit {0}
 AreOwn (event ∷ events) = IsOwn event × AreOwn events
 
--- where an enclave runs in two states that it cannot tell apart, whatever it is answered in the one
--- it may be answered in the other, and it cannot tell the states after that apart either; nothing
--- else changes in them
+-- if an enclave runs in two states that it cannot tell apart, any replies that it may get in one
+-- state it may also get in the other, and then it still cannot tell the two apart; nothing else
+-- changes in either
 abbrev pub IsPrivate : Type 0
 IsPrivate =
     (s other new : MachineState) (hart there id : ℕ) (e f : Enclave) (events : List Event)
@@ -82,8 +82,7 @@ IsPrivate =
     → (now : MachineState) × RunsThrough there other events replies now × LooksSame id e f new now
     × ChangesOwn id e s new × ChangesOwn id f other now
 
--- the event is a store by that enclave that its view allowed, that was done, and that reached the
--- byte
+-- the event is a completed store by that enclave that its view allowed and that reached the byte
 abbrev pub StoresTo : MachineState → ℕ → Event → Reply → ℕ → ℕ → Type 0
 StoresTo old hart (events.Access a value) reply id byte =
     (a.kind ≡ Store) × (reply ≡ replies.Done) × (old.worlds hart ≡ InEnclave id)
@@ -91,15 +90,15 @@ StoresTo old hart (events.Access a value) reply id byte =
     × (byte < a.address + a.size)
 StoresTo old hart _ reply id byte = ⊥
 
--- a byte of a page that is private to an enclave before and after an event stays, but for the
--- enclave's own stores
+-- a byte of a page that is private to an enclave before and after an event is unchanged, except by
+-- the enclave's own stores
 abbrev pub KeepsPrivate : MachineState → ℕ → Event → Reply → MachineState → Type 0
 KeepsPrivate old hart event reply new =
     (id byte : ℕ) (e f : Enclave) → Live old.table id e → Live new.table id f
     → is_private e.parts (byte / 4096) ≡ true → is_private f.parts (byte / 4096) ≡ true
     → (new.bytes byte ≡ old.bytes byte) ⊎ StoresTo old hart event reply id byte
 
--- an access of a page that is private to an enclave, by any other world, is a fault
+-- an access by any other world to a page that is private to an enclave is a fault
 abbrev pub DeniesOthers : MachineState → ℕ → Event → Reply → Type 0
 DeniesOthers old hart event reply =
     (a : Access) (value id byte : ℕ) (e : Enclave) → event ≡ events.Access a value
@@ -107,15 +106,15 @@ DeniesOthers old hart event reply =
     → a.address ≤ byte → byte < a.address + a.size → old.worlds hart ≢ InEnclave id
     → (cause : Cause) × (reply ≡ replies.Fault cause)
 
--- an access that reaches a page of the monitor's range is a fault, whichever world it is of
+-- an access by any world to a page of the monitor's range is a fault
 abbrev pub DeniesMonitor : MachineState → Event → Reply → Type 0
 DeniesMonitor old event reply =
     (a : Access) (value byte : ℕ) → event ≡ events.Access a value
     → has_page old.table.layout.monitor (byte / 4096) ≡ true
     → a.address ≤ byte → byte < a.address + a.size → (cause : Cause) × (reply ≡ replies.Fault cause)
 
--- where an enclave is no more, each byte of its private pages is zero, and every other byte is as
--- it was
+-- if an enclave is destroyed, each byte of its private pages is zero, and every other byte is
+-- unchanged
 abbrev pub ZeroesDestroyed : MachineState → MachineState → Type 0
 ZeroesDestroyed old new =
     (id : ℕ) (e : Enclave) → Live old.table id e → enclave_at new.table.enclaves id ≡ None

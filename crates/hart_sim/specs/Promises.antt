@@ -1,4 +1,4 @@
--- What every step promises, and what boot does.
+-- The promises of every step.
 use Rattle.std.specs.Prelude.{◌≡◌, ◌≢◌, ◌↔◌, ℕ, ◌/◌, ◌^◌, ◌<◌, true}
 use Rattle.pmp_match.specs.declared.access.Access.{Access}
 use Rattle.pmp_match.specs.declared.cause.Cause.{Cause}
@@ -15,8 +15,7 @@ use Rattle.hart_sim.specs.Privacy.{KeepsPrivate, DeniesMonitor, DeniesOthers, Ze
 use Rattle.hart_sim.specs.Wants.{RefusesByNeed}
 use Rattle.enclave_table.specs.Views.{current_view}
 
--- an aligned access in the space is answered by no fault exactly where the current view of its hart
--- holds its kind
+-- an aligned access in the space gets no fault iff the current view of its hart allows its kind
 abbrev pub AnswersByView : MachineState → ℕ → Event → Reply → Type 0
 AnswersByView old hart event reply =
     (access : Access) (value : ℕ) → event ≡ events.Access access value → IsAligned access
@@ -30,7 +29,7 @@ abbrev pub LeavesRegisters : MachineState → Event → MachineState → Type 0
 LeavesRegisters old event new = (access : Access) (value : ℕ) → event ≡ events.Access access value
     → new.registers ≡ old.registers
 
--- what holds of one event, with the state before it, its reply and the state after it
+-- the promises of one event, given the state before it, its reply and the state after it
 pub record Promises (old : MachineState) (hart : ℕ) (event : Event) (reply : Reply)
     (new : MachineState) : Type 0 where
   pub allowed : AnswersByView old hart event reply

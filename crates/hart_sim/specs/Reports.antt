@@ -1,4 +1,4 @@
--- What a run over a trace does and writes.
+-- The effect and the output of a run over a trace.
 use Rattle.std.specs.Prelude.{◌≡◌, ◌≢◌, ◌⊎◌, ℕ, ◌+◌, ◌^◌, ◌<◌, List, [], ◌∷◌, ◌++◌, length, Option}
 use Rattle.std.specs.Prelude.{Some, None, Result, Ok, Err}
 use Rattle.std.specs.List.{concat}
@@ -21,8 +21,8 @@ use Rattle.hart_sim.specs.Steps.{Run}
 use Rattle.hart_trace.specs.Texts.{reply_text, report_text}
 use Rattle.enclave_table.specs.Views.{current_view}
 
--- what a line, which may name each hart of the platform, does after that many replies: nothing
--- where it has no words; else its event happens, and the reply is written
+-- the effect of a line, given the number of earlier replies: a line without words has none;
+-- otherwise its event happens, on any hart of the platform, and the reply is written
 abbrev pub DoesLine : Machine → ℕ → List ℕ → Option (List ℕ) → Machine → Type 0
 DoesLine old count line None new = (meaning_of (state_of old).table.layout.harts line ≡ Some None)
     × (new ≡ old)
@@ -35,13 +35,13 @@ DoesLine old count line (Some text) new =
 abbrev pub RefusesLine : Machine → List ℕ → Type 0
 RefusesLine machine line = meaning_of (state_of machine).table.layout.harts line ≡ None
 
--- a line whose event happens and wants memory that is refused
+-- a line whose event happens and for which an allocation fails
 abbrev pub StarvesLine : Machine → List ℕ → Machine → Type 0
 StarvesLine old line new = (hart : ℕ) × (event : Event)
     × (meaning_of (state_of old).table.layout.harts line ≡ Some (Some (hart, event)))
     × Happens old hart event NoMemory new
 
--- lines that say events or have no words, and the events with their harts, in their order
+-- lines that contain events or no words, and their events with their harts, in order
 pub data Spells (harts : ℕ) : List (List ℕ) → List (ℕ × Event) → Type 0 where
   none : Spells harts [] []
   blank : {lines : List (List ℕ)} {events : List (ℕ × Event)} → Spells harts lines events
@@ -52,14 +52,14 @@ pub data Spells (harts : ℕ) : List (List ℕ) → List (ℕ × Event) → Type
       → meaning_of harts (without_return line) ≡ Some (Some (hart, event))
       → Spells harts (lines ++ line ∷ []) (events ++ (hart, event) ∷ [])
 
--- none of the replies wanted memory
+-- no reply is out of memory
 abbrev pub AreAnswered : List Reply → Type 0
 AreAnswered [] = Unit {0}
 AreAnswered (reply ∷ replies) = (reply ≢ NoMemory) × AreAnswered replies
 
--- a hart's own last event parts a run: right after it the bank of that hart meant the view of its
--- world by the fewest entries, and none of the events that followed was its own, so that bank is
--- there still, whether or not the hart was marked since
+-- a run is split at a hart's own last event. Right after it the bank of that hart meant the view of
+-- its world by the fewest entries. None of the later events was on this hart, so the bank is still
+-- the same, whether or not the hart was marked since
 pub record LastOwn (old : Machine) (hart : ℕ) (events : List (ℕ × Event)) (replies : List Reply)
     (new : Machine) : Type 0 where
   pub before : List (ℕ × Event)
@@ -79,10 +79,10 @@ pub record LastOwn (old : Machine) (hart : ℕ) (events : List (ℕ × Event)) (
       → LoadsFewest bank (current_view (state_of mid).table ((state_of mid).worlds hart))
   pub stays : bank_on new hart ≡ bank_on mid hart
 
--- the events that lines say are a run from one state to the other, the text tells the replies, none
--- of which wanted memory, and a hart on which none of them was has the bank that it had, and each
--- other one that which its own last event left it. Where the machine came of boot and events, it
--- comes of these and those after them
+-- the events of the lines are a run from one state to the other, and the text contains the replies,
+-- none of which is out of memory. A hart without an event has the same bank as before, and every
+-- other hart the one that its own last event left. If the machine was one after boot and some
+-- events, it is now one after these and the new events
 pub record Report (old : Machine) (lines : List (List ℕ)) (text : List ℕ) (new : Machine) :
     Type 0 where
   pub events : List (ℕ × Event)
@@ -97,18 +97,18 @@ pub record Report (old : Machine) (lines : List (List ℕ)) (text : List ℕ) (n
       → After platform before answered old
       → After platform (before ++ events) (answered ++ replies) new
 
--- so it is wherever lines were done in turn
+-- this is true whenever lines are interpreted in turn
 abbrev pub IsReported : Type 0
 IsReported = (old new : Machine) (lines answers : List (List ℕ))
     → Does DoesLine old lines answers new → Report old lines (concat answers) new
 
--- with these lines the bytes begin, each before its LF, or they are all of its lines
+-- the bytes begin with these lines, each followed by LF, or consist of them
 abbrev pub BeginsWith : List ℕ → List (List ℕ) → Type 0
 BeginsWith bytes lines = ((rest : List ℕ) × (bytes ≡ ended lines ++ rest)) ⊎ AreLines bytes lines
 
--- which lines of what was read were done. Where the run ended well, all; where line n was not
--- understood, those before it; where the reader failed or too much came, each that a LF ended, of
--- the first 2^40 bytes; else one at least, the last of which ended the run
+-- the lines that were interpreted. A run without an error interprets all; if line n is not
+-- understood, those before it; if the reader failed or the input was too long, each line of the
+-- first 2^40 bytes that ended in LF; otherwise at least one, the last of which ended the run
 abbrev pub AreDone : Result (Unit {0}) RunFault → List ℕ → List (List ℕ) → Type 0
 AreDone (Ok done) bytes lines = AreLines bytes lines
 AreDone (Err (faults.Line n)) bytes lines = (length lines + 1 ≡ n)
@@ -121,7 +121,8 @@ AreDone (Err faults.TooLong) bytes lines = (rest beyond : List ℕ)
 AreDone (Err faults.Write) bytes lines = (0 < length lines) × BeginsWith bytes lines
 AreDone (Err faults.Memory) bytes lines = (0 < length lines) × BeginsWith bytes lines
 
--- the lines that were done say events, and the machine is the one after these and those before them
+-- the interpreted lines contain events, and the machine is the one after the earlier events and
+-- these
 pub record GoesOn (platform : PlatformLayout) (events : List (ℕ × Event)) (replies : List Reply)
     (result : Result (Unit {0}) RunFault) (old new : Machine) (before after : Option (List ℕ)) :
     Type 0 where

@@ -12,10 +12,10 @@ use Rattle.sbi_decode.specs.Runners.{Runner}
 use Rattle.monitor_core.specs.States.{MonitorState}
 use Rattle.monitor_core.specs.Changes.{without_mark}
 
--- the enclaves, the world that runs on each hart, the registers of each host and enclave, the byte
--- at each address, the pages that were written, and the harts that are marked: each of these loads
--- the host's entries before its next event. A hart that there is not stays in the host's world, its
--- registers zero, and is never marked
+-- the enclaves, the world on each hart, the registers of each host and enclave, the byte at each
+-- address, the written pages, and the marked harts, which load the host's entries before their next
+-- event. A hart that does not exist stays in the host's world with zero registers, and is never
+-- marked
 pub record MachineState : Type 0 where
   pub table : EnclaveTable
   pub worlds : ℕ → World
@@ -33,7 +33,7 @@ core_of s = record {
   marked = s.marked;
 }
 
--- a state with another such part
+-- the state with another monitor's part
 abbrev pub with_core : MachineState → MonitorState → MachineState
 with_core s core = record s {
   table = core.table;
@@ -42,7 +42,7 @@ with_core s core = record s {
   marked = core.marked;
 }
 
--- the state that an event on a hart meets: the hart is not marked
+-- the state for an event on a hart: the hart is not marked
 abbrev pub awoken : MachineState → ℕ → MachineState
 awoken s hart = with_core s (without_mark (core_of s) hart)
 
@@ -59,6 +59,6 @@ opening_state layout =
       marked = λ hart. false;
     }
 
--- the view of the world that runs on a hart
+-- the view of the world on a hart
 abbrev pub view_on : MachineState → ℕ → ℕ → Perm
 view_on s hart page = view_of s.table (s.worlds hart) page

@@ -1,4 +1,4 @@
--- One step of the machine: what an event on a hart may be answered, and the state that it leaves.
+-- One step of the machine: the possible replies to an event on a hart, and the resulting state.
 use Rattle.std.specs.Prelude.{◌≡◌, ◌≢◌, ◌⊎◌, ℕ, ◌/◌, ◌%◌, ◌^◌, ◌<◌, false, ◌&&◌, ◌==◌, nat_lt}
 use Rattle.std.specs.Prelude.{if◌then◌else◌, List, [], ◌∷◌, ◌++◌, Option, Result, Ok, Err}
 use Rattle.pmp_encoding.specs.declared.perm.Perm.{Perm}
@@ -28,8 +28,8 @@ use Rattle.hart_sim.specs.Replies.{RepliesWith}
 use Rattle.enclave_table.specs.Views.{current_view}
 use Rattle.sbi_decode.specs.Runners.{runner_of}
 
--- what a view says of an access: misaligned first, then outside the space of 2 ^ 56 bytes, then
--- what the page's permission holds
+-- the verdict of a view on an access: a misaligned one fails first, then one outside the space of 2
+-- ^ 56 bytes; then the page's permission decides
 abbrev pub verdict : (ℕ → Perm) → Access → Result (Unit {0}) Cause
 verdict view a =
     if a.address % a.size == 0
@@ -37,8 +37,8 @@ verdict view a =
     else Err (access_fault a.kind))
     else Err (misaligned a.kind)
 
--- an access that is allowed. A store may want memory where its page was not written, and then
--- nothing changes
+-- the effect of an allowed access. A store to a page that has not been written may fail for lack of
+-- memory, and then nothing changes
 abbrev pub TakesEffect : Kind → MachineState → Access → ℕ → Reply → MachineState → Type 0
 TakesEffect Fetch s a value reply new = (reply ≡ replies.Done) × (new ≡ s)
 TakesEffect Load s a value reply new =
@@ -47,14 +47,14 @@ TakesEffect Store s a value reply new =
     ((reply ≡ replies.Done) × (new ≡ storing s a.address a.size value))
     ⊎ ((reply ≡ replies.NoMemory) × (s.written (a.address / 4096) ≡ false) × (new ≡ s))
 
--- an access, by what the view says of it
+-- the effect of an access, given the verdict of the view
 abbrev pub Accesses : Result (Unit {0}) Cause → MachineState → Access → ℕ → Reply → MachineState
     → Type 0
 Accesses (Err cause) s a value reply new = (reply ≡ replies.Fault cause) × (new ≡ s)
 Accesses (Ok done) s a value reply new = TakesEffect a.kind s a value reply new
 
--- the monitor serves a call: its state is the machine's then, the pages are zero that it says, and
--- the reply is its answer
+-- the monitor serves a call: its new state becomes the machine's, its pages are zeroed, and the
+-- reply contains its answer
 abbrev pub Serves : (Answer → Option PageRange → MonitorState → Type 0) → MachineState → ℕ → Reply
     → MachineState → Type 0
 Serves DoesEvent s hart reply new =
@@ -62,7 +62,7 @@ Serves DoesEvent s hart reply new =
     × DoesEvent answer pages core × (new ≡ zeroing (with_core s core) pages)
     × RepliesWith (replies.Call answer.status answer.value) new hart reply
 
--- an event, on a hart that is not marked
+-- the effect of an event on a hart that is not marked
 abbrev pub DoesEvent : Event → MachineState → ℕ → Reply → MachineState → Type 0
 DoesEvent (events.Access a value) s hart reply new =
     Accesses (verdict (current_view s.table (s.worlds hart)) a) s a value reply new
@@ -77,8 +77,8 @@ DoesEvent events.Irq s hart reply new = (core : MonitorState)
     × Interrupts (s.worlds hart) (core_of s) hart core × (new ≡ with_core s core)
     × RepliesWith replies.Irq new hart reply
 
--- an event by the lists that an access may meet, whatever they mean: the access does what such a
--- list says of it, and any other event what it does
+-- the effect of an event, given the lists that an access may meet, whatever they mean: such a list
+-- decides an access, and any other event has its usual effect
 abbrev pub DoesBy : (List Entry → Type 0) → Event → MachineState → ℕ → Reply → MachineState → Type 0
 DoesBy Meets (events.Access a value) s hart reply new =
     (list : List Entry) (said : Result (Unit {0}) Cause) → Meets list → Judges list a said
@@ -87,19 +87,19 @@ DoesBy Meets (events.Reg n value) s hart reply new = DoesEvent (events.Reg n val
 DoesBy Meets (events.Ecall words) s hart reply new = DoesEvent (events.Ecall words) s hart reply new
 DoesBy Meets events.Irq s hart reply new = DoesEvent events.Irq s hart reply new
 
--- a step: the event first takes the mark of its hart away
+-- a step: the event first removes the mark of its hart
 abbrev pub Step : MachineState → ℕ → Event → Reply → MachineState → Type 0
 Step old hart event reply new = DoesEvent event (awoken old hart) hart reply new
 
--- what may happen on a hart: accesses by supervisor or user, settings of x0 to x31, calls of at
--- most eight words, interrupts
+-- the possible events on a hart: accesses by supervisor or user mode, settings of x0 to x31, calls
+-- with at most eight words, and interrupts
 abbrev pub IsEvent : Event → Type 0
 IsEvent (events.Access a value) = a.mode ≢ Machine
 IsEvent (events.Reg n value) = n < 32
 IsEvent _ = Unit {0}
 
--- a run: each event may happen, on a hart that there is, and each step goes on from the state that
--- the one before it left
+-- a run: each event is possible, on an existing hart, and each step starts from the state after the
+-- previous one
 pub data Run (old : MachineState) : List (ℕ × Event) → List Reply → MachineState → Type 0 where
   still : Run old [] [] old
   step : {events : List (ℕ × Event)} {replies : List Reply} {mid new : MachineState}

@@ -1,4 +1,4 @@
--- When a creation or a destruction is refused for want of entries.
+-- The conditions for refusing a creation or a destruction with `NoEntries`.
 use Rattle.std.specs.Prelude.{◌≡◌, ◌⊎◌, ℕ, None, Some}
 use Rattle.measurement.specs.Requests.{parts_of}
 use Rattle.enclave_table.specs.Enclaves.{with_enclave}
@@ -30,14 +30,13 @@ abbrev pub IsAnsweredBy : Reply → Refusal → Type 0
 IsAnsweredBy reply refusal = (value world used : ℕ)
     × (reply ≡ replies.Call (below_zero (refusal_number refusal)) value world used)
 
--- a call that passes its other checks is refused for want of entries only where a view after it
--- would need more than there are; and where one would, it is refused, for want of entries or out of
--- memory
+-- a call that passes its other checks fails with `NoEntries` only if a resulting view would need
+-- more entries than a hart has. If one would, it fails with `NoEntries` or `NoMemory`
 abbrev pub IsRefusedExactlyWhere : Type 0 → Reply → Type 0
 IsRefusedExactlyWhere Outgrows reply = (IsAnsweredBy reply NoEntries → Outgrows)
     × (Outgrows → IsAnsweredBy reply NoEntries ⊎ IsAnsweredBy reply NoMemory)
 
--- a creation that passes its other checks is refused exactly where it outgrows the bank
+-- this is true of each creation that passes its other checks
 abbrev pub CreatesByNeed : Type 0
 CreatesByNeed =
     (asked : Create) (s : MachineState) (hart : ℕ) (reply : Reply) (new : MachineState)
@@ -48,7 +47,7 @@ CreatesByNeed =
     → IsRefusedExactlyWhere (OutgrowsByCreate (measured_in s.bytes) s.table
     asked) reply
 
--- a destruction that passes its other checks is refused exactly where the host's view outgrows it
+-- this is true of each destruction that passes its other checks
 abbrev pub DestroysByNeed : Type 0
 DestroysByNeed =
     (id : ℕ) (s : MachineState) (hart : ℕ) (reply : Reply) (new : MachineState)
@@ -58,8 +57,9 @@ DestroysByNeed =
     → IsRefusedExactlyWhere (NeedsMore s.table.layout.limit
     (host_view (with_enclave s.table id None))) reply
 
--- the call that an event makes on a hart is refused for want of entries just where a view after it
--- would need more; an event that is no call is never refused so
+-- the call that an event makes on a hart fails with `NoEntries` only if a resulting view would need
+-- more entries than a hart has, as in `IsRefusedByNeed`; an event other than a call never fails in
+-- this way
 abbrev pub RefusesByNeed : MachineState → ℕ → Event → Reply → Type 0
 RefusesByNeed s hart (events.Ecall words) reply =
     IsRefusedByNeed (call_of (calling s hart words.items)) s.table (s.worlds hart)

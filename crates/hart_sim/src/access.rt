@@ -1,4 +1,4 @@
-//! An access: judged by the bank that is loaded, then done in memory.
+//! Accesses: judged by the loaded bank, then performed in memory.
 
 ghost use Rattle.std.specs.Prelude.{◌≡◌, ◌%◌};
 ghost use Rattle.hart_sim.specs.Effects.{ReachesMemory};
@@ -9,7 +9,7 @@ use hart_trace::Reply;
 use pmp_match::{Access, Kind, judge};
 use std::alloc::Global;
 
-/// An access that is allowed. It takes memory only for a store to a page that was not written.
+/// Performs an allowed access. Allocates only for a store to a page that has not been written.
 #[inline(always)]
 fn reach(memory: &mut Memory, alloc: Global, access: &Access, value: u64) -> Reply
     requires { access.now.address % access.now.size ≡ 0 }
@@ -41,8 +41,8 @@ impl MachineParts {
     ghost use Rattle.hart_sim.specs.States.{view_on};
     ghost use Rattle.hart_sim.specs.Steps.{Accesses, verdict};
 
-    /// An access on a hart that is not marked. The bank that is loaded there says whether it is a fault or takes effect, on
-    /// every machine; where the banks are right, it is what the view of the hart's world says.
+    /// Performs an access on a hart that is not marked. On every machine the loaded bank decides whether it faults or
+    /// takes effect; if the banks are right, that is the decision of the view of the hart's world.
     #[inline(always)]
     pub(crate) fn access(&mut self, hart: u8, access: &Access, value: u64) -> Reply
         requires on { IsOn self.old hart }

@@ -1,4 +1,4 @@
-//! The answers of calls and interrupts: the world after them, and how many entries its view needs.
+//! The replies to calls and interrupts: the world after them, and the number of entries that its view needs.
 
 use crate::parts::MachineParts;
 use hart_trace::Reply;
@@ -11,7 +11,7 @@ impl MachineParts {
     ghost use Rattle.hart_sim.specs.Replies.{RepliesWith};
     ghost use Rattle.hart_trace.specs.declared.reply.Reply.TheVariants as replies;
 
-    /// The number of the world on a hart.
+    /// Returns the number of the world on a hart.
     fn world_number(&self, hart: u8) -> u64
         requires { hart < 4 }
         ensures { result ≡ world_number ((state_in self.now).worlds hart) }
@@ -22,7 +22,7 @@ impl MachineParts {
         }
     }
 
-    /// The reply to a call with this answer.
+    /// Returns the reply to a call with this answer.
     #[inline(always)]
     pub(crate) fn reply_to_call(&self, hart: u8, answer: Answer) -> Reply
         requires { hart < 4 }
@@ -39,7 +39,7 @@ impl MachineParts {
         }
     }
 
-    /// The reply to an interrupt.
+    /// Returns the reply to an interrupt.
     pub(crate) fn reply_to_interrupt(&self, hart: u8) -> Reply
         requires { hart < 4 }
         ensures { RepliesWith replies.Irq (state_in self.now) hart result }

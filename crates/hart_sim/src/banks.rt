@@ -1,4 +1,4 @@
-//! The banks: which entries are loaded on a hart, and when.
+//! The banks: the entries loaded on a hart.
 
 use crate::parts::MachineParts;
 use pmp_encoding::Bank;
@@ -14,7 +14,7 @@ impl MachineParts {
     ghost use Rattle.hart_sim.specs.Parts.{FitTogether, state_in, bank_in};
     ghost use Rattle.hart_sim.specs.States.{core_of, with_core};
 
-    /// The bank of a hart.
+    /// Returns the bank of a hart.
     pub(crate) fn bank(&self, hart: u8) -> &Bank
         requires { hart < 4 }
         ensures { bank_in self.now hart ≡ Some result.now }
@@ -22,7 +22,7 @@ impl MachineParts {
         self.harts[hart as usize].bank()
     }
 
-    /// Puts another bank in place, and leaves all else.
+    /// Replaces the bank of a hart and nothing else.
     pub(crate) fn put_bank(&mut self, hart: u8, bank: Bank)
         requires hart { hart < 4 }
         requires fit { FitTogether self.old }
@@ -38,7 +38,7 @@ impl MachineParts {
         self.harts[hart as usize].put_bank(bank);
     }
 
-    /// A marked hart loads the host's entries, and is not marked any more.
+    /// Loads the host's entries on the hart and removes its mark, if it is marked.
     #[inline(always)]
     pub(crate) fn wake(&mut self, hart: u8)
         requires on { IsOn self.old hart }

@@ -1,4 +1,4 @@
-//! The machine as it is at boot.
+//! The machine at boot.
 
 use crate::Memory;
 use crate::parts::MachineParts;
@@ -16,7 +16,7 @@ impl MachineParts {
     ghost use Rattle.hart_sim.specs.Parts.{FitTogether, state_in, bank_in};
     ghost use Rattle.hart_sim.specs.States.{opening_state};
 
-    /// The machine of a platform at boot: no enclave, nothing written, and the host's entries on each hart.
+    /// Boots the machine of a platform: no enclave, nothing written, and the host's entries on each hart.
     pub(crate) fn boot(alloc: Global, platform: Platform) -> Result<MachineParts, BootFault>
         ensures state { IfOk result (λ p. state_in p ≡ opening_state platform) }
         ensures rules { IfOk result (λ _. IsLayout platform) }

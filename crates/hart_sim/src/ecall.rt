@@ -1,4 +1,4 @@
-//! Calls to the monitor and interrupts: what the monitor makes of them, done in memory and in the hart's bank.
+//! Calls to the monitor and interrupts, with their effects on memory and on the hart's bank.
 
 ghost use Rattle.std.specs.Prelude.{◌≡◌, ◌+◌, ◌^◌, ◌≤◌, IfSome};
 ghost use Rattle.monitor_core.specs.States.{MonitorState};
@@ -40,7 +40,7 @@ impl MachineParts {
     ghost use Rattle.hart_sim.specs.Steps.{Serves, DoesEvent, Step};
     ghost use Rattle.hart_sim.specs.Memory.{measured_in};
 
-    /// Serves a call with these words, and answers what its caller is given.
+    /// Serves a call with these words, and returns the answer to its caller.
     fn serve(&mut self, hart: u8, words: &[u64]) -> Answer
         requires on { IsOn self.old hart }
         requires few { hart < 4 }
@@ -70,8 +70,8 @@ impl MachineParts {
         served.answer
     }
 
-    /// A call with these words. Its reply is made where it is read: one that a call returns would be copied in larger pieces than it
-    /// was written in, and would wait for them.
+    /// Performs a call with these words. The reply is built where it is read: a returned reply would be copied in
+    /// larger pieces than it was written in, which stalls the processor.
     #[inline(always)]
     pub(crate) fn ecall(&mut self, hart: u8, words: &[u64]) -> Reply
         requires on { IsOn self.old hart }
@@ -86,7 +86,7 @@ impl MachineParts {
         self.reply_to_call(hart, answer)
     }
 
-    /// A call on a hart, which loads the host's entries first where it is marked. Its words are lent.
+    /// Performs a call on a hart, which first loads the host's entries if it is marked. The words are borrowed.
     #[inline(always)]
     pub(crate) fn call(&mut self, hart: u8, words: &ArrayVec<u64, 8>) -> Reply
         requires on { IsOn self.old hart }
@@ -99,7 +99,7 @@ impl MachineParts {
         self.ecall(hart, words.as_slice())
     }
 
-    /// The timer's interrupt.
+    /// Performs the timer's interrupt.
     pub(crate) fn interrupt(&mut self, hart: u8) -> Reply
         requires on { IsOn self.old hart }
         requires few { hart < 4 }

@@ -1,4 +1,4 @@
-//! The registers on a hart and those that are saved: what the monitor says of them is done.
+//! Applies the monitor's changes to the registers on a hart and to the saved ones.
 
 ghost use Rattle.std.specs.Prelude.{◌≡◌, ◌≤◌, ◌<◌, ◌∷◌, []};
 ghost use Rattle.pmp_encoding.specs.Limits.{limit_number};
@@ -17,7 +17,7 @@ use context_switch::{Contexts, Hart, switch};
 use monitor_core::{ChangeKind, Core, SetChange, SetChanges, World};
 use sbi_decode::Registers;
 
-/// Sets a register of the world that runs on a hart.
+/// Sets a register of the world on a hart.
 #[inline(always)]
 pub(crate) fn set_register(here: &mut Hart, n: u8, value: u64)
     requires { n < 32 }
@@ -26,7 +26,7 @@ pub(crate) fn set_register(here: &mut Hart, n: u8, value: u64)
     here.registers_mut().set(n as usize, value);
 }
 
-/// Puts the words of a call into the registers of the world that runs on a hart; missing ones stay.
+/// Writes the words of a call to the registers of the world on a hart; missing words leave their registers unchanged.
 pub(crate) fn put_call(here: &mut Hart, words: &[u64])
     ensures { here.new ≡ with_registers here.old (with_words (registers_of here.old)
         call_places words.now) }
@@ -34,7 +34,7 @@ pub(crate) fn put_call(here: &mut Hart, words: &[u64])
     put_words(here.registers_mut(), words);
 }
 
-/// Changes one register set as the monitor said: on the hart where it runs there, or else where it is saved.
+/// Applies one change of a register set: on the hart if the set is in use there, otherwise to the saved set.
 fn change(here: &mut Hart, contexts: &mut Contexts, told: &SetChange)
     requires { told.now.enclave ≤ 64 }
     ensures sets { (who : Runner) → registers_in (here.new ∷ []) contexts.new who
@@ -56,8 +56,8 @@ fn change(here: &mut Hart, contexts: &mut Contexts, told: &SetChange)
     contexts.set(here.number(), world, set);
 }
 
-/// Changes the register sets as the monitor said after an event on a hart, and loads the entries of the hart's world
-/// there where it asks for that.
+/// Applies the monitor's changes of register sets after an event on a hart, and loads the entries of the hart's world
+/// if requested.
 pub(crate) fn follow(
     here: &mut Hart,
     contexts: &mut Contexts,
@@ -81,7 +81,7 @@ pub(crate) fn follow(
     change(here, contexts, &changes.third);
 }
 
-/// Returns whether a hart runs the host of the hart of this number, or this enclave.
+/// Returns whether a hart runs this enclave, or the host of the hart with this number.
 fn runs(here: &Hart, number: u8, world: World) -> bool
     ensures { result ≡ is_same (runner_of number world)
         (runner_of (number_of here.now) (world_of here.now)) }
@@ -98,7 +98,8 @@ fn runs(here: &Hart, number: u8, world: World) -> bool
     }
 }
 
-/// Lends the registers of the host on a hart, or of an enclave: those on the hart that runs it, or else the saved ones.
+/// Borrows the registers of the host on a hart, or of an enclave: those of the hart that runs it, otherwise the saved
+/// ones.
 pub(crate) fn registers_of<'a>(
     harts: &'a [Hart],
     contexts: &'a Contexts,

@@ -1,4 +1,4 @@
-//! The machine: the monitor's core, the harts, the saved registers and memory, to which events happen.
+//! The machine: the monitor's core, the harts, the saved registers, and memory.
 
 ghost use Rattle.hart_sim.specs.Parts.{FitTogether};
 
@@ -41,7 +41,7 @@ impl Machine {
     ghost use Rattle.hart_sim.specs.Steps.{IsEvent, Step};
     ghost use Rattle.sbi_decode.specs.Runners.{IsWorld, runner_of};
 
-    /// The PMP registers that are loaded on a hart.
+    /// Returns the PMP registers loaded on a hart.
     pub fn bank(&self, hart: u8) -> &Bank
         requires { hart < 4 }
         ensures bank { bank_on self.now hart ≡ Some result.now }
@@ -51,7 +51,7 @@ impl Machine {
         self.parts.bank(hart)
     }
 
-    /// The world that runs on a hart.
+    /// Returns the world on a hart.
     #[tactic(auto, unfolding(crate::specs::Machines::state_of, crate::specs::Machines::kept_of))]
     pub fn world(&self, hart: u8) -> World
         requires { hart < 4 }
@@ -60,7 +60,7 @@ impl Machine {
         self.parts.core.world(hart)
     }
 
-    /// The registers of the world that runs on a hart.
+    /// Returns the registers of the world on a hart.
     pub fn registers(&self, hart: u8) -> &Registers
         requires { hart < 4 }
         ensures { let s = state_of self.now in
@@ -69,7 +69,7 @@ impl Machine {
         self.parts.harts[hart as usize].registers()
     }
 
-    /// The registers of the host on a hart, or of an enclave by its id from 1 to 64, whether it runs or not.
+    /// Returns the registers of the host on a hart, or of an enclave by its id from 1 to 64, running or not.
     #[tactic(auto, unfolding(crate::specs::Machines::state_of, crate::specs::Machines::kept_of))]
     pub fn registers_of(&self, hart: u8, world: World) -> &Registers
         requires hart { hart < 4 }
@@ -84,7 +84,7 @@ impl Machine {
         )
     }
 
-    /// Whether a hart is marked: it loads the host's entries before its next event.
+    /// Returns whether a hart is marked: it loads the host's entries before its next event.
     pub fn marked(&self, hart: u8) -> bool
         requires { hart < 4 }
         ensures { result ≡ (state_of self.now).marked hart }
@@ -92,7 +92,7 @@ impl Machine {
         self.parts.core.is_marked(hart)
     }
 
-    /// The byte at an address.
+    /// Returns the byte at an address.
     #[tactic(auto, unfolding(crate::specs::Machines::state_of, crate::specs::Machines::kept_of))]
     pub fn byte(&self, address: u64) -> u8
         requires { address < 2 ^ 56 }
@@ -101,7 +101,7 @@ impl Machine {
         self.parts.memory.byte(address)
     }
 
-    /// Whether a page was written since boot, and not made zero since: a store to another page may want memory.
+    /// Returns whether a page was written since boot and not zeroed since. A store to any other page may allocate.
     #[tactic(auto, unfolding(crate::specs::Machines::state_of, crate::specs::Machines::kept_of))]
     pub fn is_written(&self, page: u64) -> bool
         requires { page < 2 ^ 44 }
@@ -110,7 +110,7 @@ impl Machine {
         self.parts.memory.is_written(page)
     }
 
-    /// The table of enclaves.
+    /// Returns the table of enclaves.
     #[tactic(auto, unfolding(crate::specs::Machines::state_of, crate::specs::Machines::kept_of))]
     pub fn table(&self) -> &Table
         ensures kept { result.now ≡ kept_of self.now }
@@ -119,7 +119,7 @@ impl Machine {
         self.parts.core.table()
     }
 
-    /// How many harts there are.
+    /// Returns the number of harts.
     #[tactic(auto, unfolding(crate::specs::Machines::state_of, crate::specs::Machines::kept_of))]
     pub fn harts(&self) -> u8
         ensures value { result ≡ (state_of self.now).table.layout.harts }
@@ -129,8 +129,8 @@ impl Machine {
         self.parts.core.harts()
     }
 
-    /// Puts another bank in place on a hart, as faulty hardware might. Nothing else changes. What boot promises of the
-    /// entries on that hart holds no more.
+    /// Replaces the bank of a hart, as faulty hardware might. Nothing else changes. The guarantees about the entries on
+    /// that hart are then void.
     #[tactic(auto, unfolding(crate::specs::Machines::state_of, crate::specs::Machines::kept_of))]
     pub fn set_bank(&mut self, hart: u8, bank: Bank)
         requires hart { hart < 4 }
@@ -145,8 +145,8 @@ impl Machine {
         self.parts.put_bank(hart, bank);
     }
 
-    /// The machine of a platform: no enclave, each hart in the host's world with the fewest entries of its view. It is
-    /// refused where that view needs more entries than the platform has, and where memory is.
+    /// Boots the machine of a platform: no enclave, each hart in the host's world with the fewest entries of its view.
+    /// Fails if that view needs more entries than a hart of the platform has, or if an allocation fails.
     pub fn boot(alloc: Global, platform: Platform) -> Result<Machine, BootFault>
         ensures after { IfOk result (λ m. After platform [] [] m) }
         ensures rules { IfOk result (λ _. IsLayout platform) }
@@ -162,9 +162,10 @@ impl Machine {
         }
     }
 
-    /// An event happens on a hart, numbered from 0. On every machine an access does what the list says that it meets, and
-    /// where entries are loaded, the bank is `Bank::of` these. From boot on, as long as no other bank was put in place, the event is answered as the state says, and each hart that is
-    /// not marked has the fewest entries of the view of its world.
+    /// Performs an event on a hart, numbered from 0. On every machine an access is decided by the list that it meets,
+    /// and if entries are loaded, the bank becomes `Bank::of` them. From boot on, unless a bank has been replaced, the
+    /// event is answered according to the state, and each hart that is not marked has the fewest entries of the view of
+    /// its world.
     #[inline(always)]
     pub fn step(&mut self, hart: u8, event: Event) -> Reply
         requires hart { hart < (state_of self.old).table.layout.harts }
@@ -209,7 +210,7 @@ impl Machine {
         self.parts.step(hart, event)
     }
 
-    /// A call happens on a hart, as [`Machine::step`] has it. Its words are lent: an event would be a copy of them.
+    /// Performs a call on a hart, as [`Machine::step`] does. The words are borrowed, because an event would copy them.
     #[inline(always)]
     pub(crate) fn call(&mut self, hart: u8, words: &ArrayVec<u64, 8>) -> Reply
         requires { hart < (state_of self.old).table.layout.harts }

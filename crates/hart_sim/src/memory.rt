@@ -1,5 +1,5 @@
-//! The bytes of the physical address space, kept by pages, and these by spans of them that lie side by side. A page that was
-//! not written has no bytes of its own and reads as zero.
+//! The bytes of the physical address space, stored by pages, in spans of adjacent pages. A page that has not been
+//! written is not stored and reads as zero.
 
 ghost use Rattle.std.specs.Prelude.{◌≡◌, ℕ, ◌+◌, ◌-◌, ◌*◌, ◌/◌, ◌%◌, ◌^◌, ◌<◌, ◌≤◌, OnOk, OnErr, IfSome, None, Some, false, true, ◌==◌, ◌&&◌, if◌then◌else◌};
 ghost use Rattle.hart_sim.specs.Memory.{bytes_at, number_of_bytes, in_range, stored, zeroed, byte_at, is_written};
@@ -11,17 +11,17 @@ use measurement::Pages;
 use std::alloc::{AllocError, Global};
 use std::collections::BTreeMap;
 
-/// The bytes of a page.
+/// Size of a page in bytes.
 const PAGE: u64 = 4096;
 
-/// The spans of the pages that were written, by their numbers.
+/// The spans of the written pages, by number.
 #[derive(Drop)]
 pub struct Memory {
     spans: BTreeMap<u64, Box<PageSpan>>,
 }
 
 impl Memory {
-    /// Nothing was written.
+    /// Returns memory without written pages.
     pub fn new(alloc: Global) -> Memory
         ensures bytes { (a : ℕ) → byte_at result a ≡ 0 }
         ensures written { (page : ℕ) → is_written result page ≡ false }
@@ -31,7 +31,7 @@ impl Memory {
         }
     }
 
-    /// The bytes of a page, where it was written.
+    /// Returns the bytes of a page, if it has been written.
     #[inline(always)]
     fn page(&self, page: u64) -> Option<&[u8; 4096]>
         ensures some { IfSome result (λ bytes. page_in self.now page ≡ Some bytes.now) }
@@ -43,7 +43,7 @@ impl Memory {
         }
     }
 
-    /// The byte at an address.
+    /// Returns the byte at an address.
     pub fn byte(&self, address: u64) -> u8
         ensures { result ≡ byte_at self.now address }
     {
@@ -53,14 +53,14 @@ impl Memory {
         }
     }
 
-    /// Whether a page was written, and not made zero since. A store to a page that was not may want memory.
+    /// Returns whether a page has been written and not zeroed since. A store to any other page may allocate.
     pub fn is_written(&self, page: u64) -> bool
         ensures { result ≡ is_written self.now page }
     {
         self.page(page).is_some()
     }
 
-    /// The little-endian number of bytes within one page.
+    /// Loads a little-endian number from within one page.
     pub fn load(&self, address: u64, size: usize) -> u64
         requires size { size ≤ 8 }
         requires inside { address % 4096 + size ≤ 4096 }
@@ -72,8 +72,8 @@ impl Memory {
         }
     }
 
-    /// Puts the lowest bytes of a value at an address, within one page, which is written from then on. Only a page
-    /// that was not written takes memory.
+    /// Stores the lowest bytes of a value at an address, within one page, which then counts as written. Allocates only
+    /// for a page that has not been written.
     pub fn store(
         &mut self,
         alloc: Global,
@@ -102,8 +102,8 @@ impl Memory {
         self.store_in_new_span(alloc, address, size, value)
     }
 
-    /// Puts the lowest bytes of a value at an address of a span that is not there. It is separate so that a store to a span
-    /// that is there clears no room for another.
+    /// Stores the lowest bytes of a value at an address in a new span. It is a separate function to keep the stack
+    /// frame of other stores small.
     #[cold]
     #[inline(never)]
     fn store_in_new_span(
@@ -133,7 +133,7 @@ impl Memory {
         Ok(())
     }
 
-    /// The first span from one on and before another that is there.
+    /// Returns the first existing span in `from..end`.
     fn first_span(&self, from: u64, end: u64) -> Option<u64>
         requires { from ≤ end }
         ensures found { IfSome result (λ span.
@@ -148,7 +148,7 @@ impl Memory {
         }
     }
 
-    /// Makes those pages of a span that lie from one on and before another zero, and not written.
+    /// Zeroes the pages `first..end` of a span, which then count as not written.
     fn forget_in(&mut self, span: u64, first: u64, end: u64)
         requires order { first ≤ end }
         requires inside { span * 4096 < end }
@@ -164,7 +164,7 @@ impl Memory {
         }
     }
 
-    /// Makes every byte of some pages zero, and the pages not written. It looks at those spans alone that are there.
+    /// Zeroes pages, which then count as not written. Visits only existing spans.
     pub fn forget(&mut self, first: u64, count: u64)
         requires { first + count < 2 ^ 64 }
         ensures bytes { (a : ℕ)

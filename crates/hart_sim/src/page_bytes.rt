@@ -6,7 +6,8 @@ ghost use Rattle.hart_sim.specs.Memory.{bytes_at, number_of_bytes, in_range};
 
 use std::alloc::{AllocError, Global};
 
-/// The little-endian number of bytes of a page, byte by byte from the highest one. Where the size is a constant, it is one load.
+/// Returns the little-endian number of `size` bytes of a page, assembled from the highest byte down. With a constant
+/// size it compiles to one load.
 #[inline(always)]
 fn number_of(page: &[u8; 4096], at: usize, size: usize) -> u64
     requires size { size ≤ 8 }
@@ -22,7 +23,7 @@ fn number_of(page: &[u8; 4096], at: usize, size: usize) -> u64
     number
 }
 
-/// Which bits of a number are its lowest bytes, by how many they are.
+/// The mask of the lowest bytes of a number, by their count.
 static LOWEST: [u64; 9] = [
     0,
     0xff,
@@ -35,7 +36,7 @@ static LOWEST: [u64; 9] = [
     u64::MAX,
 ];
 
-/// The number that the lowest bytes of a number are.
+/// Returns the number in the lowest bytes of a number.
 #[inline(always)]
 fn lowest(number: u64, size: usize) -> u64
     requires { size ≤ 8 }
@@ -44,8 +45,8 @@ fn lowest(number: u64, size: usize) -> u64
     number & LOWEST[size]
 }
 
-/// The little-endian number of bytes near a page's end, byte by byte. It is separate so that a load elsewhere clears no room
-/// for it.
+/// Returns the little-endian number of bytes near a page's end. It is a separate function to keep the stack frame of
+/// other loads small.
 #[inline(never)]
 fn number_at_end(page: &[u8; 4096], at: usize, size: usize) -> u64
     requires size { size ≤ 8 }
@@ -55,8 +56,8 @@ fn number_at_end(page: &[u8; 4096], at: usize, size: usize) -> u64
     number_of(page, at, size)
 }
 
-/// The little-endian number of bytes of a page. Sizes come in no order, so a branch on them is often guessed wrong. Eight
-/// bytes are one load, of which a mask keeps the lowest. Only near a page's end are there fewer than eight.
+/// Returns the little-endian number of bytes of a page. A branch on the size would often be mispredicted, because sizes
+/// follow no pattern. Instead eight bytes are loaded, and a mask keeps the lowest, except near a page's end.
 pub(crate) fn number_at(page: &[u8; 4096], at: usize, size: usize) -> u64
     requires size { size ≤ 8 }
     requires inside { at + size ≤ 4096 }
@@ -76,14 +77,14 @@ pub(crate) fn copy_page(page: &[u8; 4096], into: &mut [u8; 4096])
     into.copy_from_slice(page);
 }
 
-/// Makes a page zero.
+/// Zeroes a page.
 pub(crate) fn clear(into: &mut [u8; 4096])
     ensures { into.new ≡ bytes_at (λ k. 0) 0 4096 }
 {
     *into = [0; 4096];
 }
 
-/// Byte `k` of a value, the lowest first.
+/// Returns byte `k` of a value, counted from the lowest.
 fn byte_of(value: u64, k: usize) -> u8
     requires { k < 8 }
     ensures { result ≡ byte_of value k }
@@ -91,7 +92,7 @@ fn byte_of(value: u64, k: usize) -> u8
     ((value >> (8 * k)) % 256) as u8
 }
 
-/// Puts the lowest bytes of a value into a page, byte by byte from the lowest one. Where the size is a constant, it is one store.
+/// Stores the lowest bytes of a value in a page, from the lowest up. With a constant size it compiles to one store.
 #[inline(always)]
 fn put_bytes(page: &mut [u8; 4096], at: usize, size: usize, value: u64)
     requires size { size ≤ 8 }
@@ -105,8 +106,8 @@ fn put_bytes(page: &mut [u8; 4096], at: usize, size: usize, value: u64)
     }
 }
 
-/// Puts the lowest bytes of a value near a page's end, byte by byte. It is separate so that a store elsewhere clears no room
-/// for it.
+/// Stores the lowest bytes of a value near a page's end. It is a separate function to keep the stack frame of other
+/// stores small.
 #[inline(never)]
 fn put_at_end(page: &mut [u8; 4096], at: usize, size: usize, value: u64)
     requires size { size ≤ 8 }
@@ -118,7 +119,7 @@ fn put_at_end(page: &mut [u8; 4096], at: usize, size: usize, value: u64)
     put_bytes(page, at, size, value);
 }
 
-/// A number with the lowest bytes of another instead of its own.
+/// Replaces the lowest bytes of a number by those of another.
 #[inline(always)]
 fn with_lowest(number: u64, size: usize, value: u64) -> u64
     requires { size ≤ 8 }
@@ -128,9 +129,9 @@ fn with_lowest(number: u64, size: usize, value: u64) -> u64
     number - lowest(number, size) + lowest(value, size)
 }
 
-/// Puts the lowest bytes of a value into a page, the lowest first. As in `number_at` there is no branch between the sizes below eight.
-/// Eight bytes are one load and one store, which puts those after the value's back as they were. A value of eight bytes is not
-/// loaded for: a store waits for no cache, a load does.
+/// Stores the lowest bytes of a value in a page, lowest first. As in `number_at` there is no branch between the sizes
+/// below eight: eight bytes are loaded and stored again, so those after the value keep their contents. A value of eight
+/// bytes needs no load, which could wait for the cache.
 pub(crate) fn put(page: &mut [u8; 4096], at: usize, size: usize, value: u64)
     requires size { size ≤ 8 }
     requires inside { at + size ≤ 4096 }
@@ -148,7 +149,7 @@ pub(crate) fn put(page: &mut [u8; 4096], at: usize, size: usize, value: u64)
     }
 }
 
-/// A page of its own of zeros but for a value.
+/// Allocates a page of zeros with one value.
 pub(crate) fn page_of(
     alloc: Global,
     at: usize,

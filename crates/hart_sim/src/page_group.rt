@@ -1,4 +1,4 @@
-//! Pages side by side, each with bytes of its own once it is written.
+//! Groups of adjacent pages, each allocated when it is first written.
 
 ghost use Rattle.std.specs.Prelude.{◌≡◌, ◌≢◌, ℕ, ◌+◌, ◌-◌, ◌<◌, ◌≤◌, IfOk, IfSome, OnOk, OnErr, None, Some, true, if◌then◌else◌, is_some};
 ghost use Rattle.pmp_encoding.specs.Registers.{byte_of};
@@ -8,20 +8,20 @@ ghost use Rattle.hart_sim.specs.Groups.{byte_in, page_at};
 use crate::page_bytes::{page_of, put};
 use std::alloc::{AllocError, Global};
 
-/// How many pages a group has.
+/// Number of pages in a group.
 pub(crate) const GROUP: usize = 64;
 
-/// A page that was not written.
+/// A page that has not been written.
 const NO_PAGE: Option<Box<[u8; 4096]>> = None;
 
-/// 64 pages side by side, of 256 KiB. A page that was not written has no bytes of its own and reads as zero.
+/// 64 adjacent pages, 256 KiB. A page that has not been written is not stored and reads as zero.
 #[derive(Drop)]
 pub struct PageGroup {
     pages: [Option<Box<[u8; 4096]>>; GROUP],
 }
 
 impl PageGroup {
-    /// No page was written.
+    /// Returns a group without written pages.
     fn new() -> PageGroup
         ensures { (place : ℕ) → page_at result place ≡ None }
     {
@@ -30,7 +30,7 @@ impl PageGroup {
         }
     }
 
-    /// The bytes of a page, where it was written.
+    /// Returns the bytes of a page, if it has been written.
     #[inline(always)]
     pub(crate) fn page(&self, place: usize) -> Option<&[u8; 4096]>
         requires { place < 64 }
@@ -43,8 +43,8 @@ impl PageGroup {
         }
     }
 
-    /// Puts the lowest bytes of a value into a page, which is written from then on. Only a page that was not written
-    /// takes memory.
+    /// Stores the lowest bytes of a value in a page, which then counts as written. Allocates only for a page that has
+    /// not been written.
     pub(crate) fn store(
         &mut self,
         alloc: Global,
@@ -72,8 +72,8 @@ impl PageGroup {
         self.store_in_new_page(alloc, place, at, size, value)
     }
 
-    /// Puts the lowest bytes of a value into a page that was not written. It is separate so that a store to a page that
-    /// is there clears no room for another.
+    /// Stores the lowest bytes of a value in a new page. It is a separate function to keep the stack frame of other
+    /// stores small.
     #[cold]
     #[inline(never)]
     fn store_in_new_page(
@@ -101,7 +101,7 @@ impl PageGroup {
         Ok(())
     }
 
-    /// Makes some of the pages zero, and not written.
+    /// Zeroes the pages `from..end`, which then count as not written.
     pub(crate) fn forget(&mut self, from: usize, end: usize)
         requires order { from ≤ end }
         requires inside { end ≤ 64 }
@@ -114,7 +114,7 @@ impl PageGroup {
     }
 }
 
-/// A group of its own, with a value in one of its pages.
+/// Allocates a group with a value in one of its pages.
 pub(crate) fn group_of(
     alloc: Global,
     place: usize,

@@ -1,4 +1,4 @@
-//! Groups of pages side by side, each there once one of its pages is written.
+//! Spans of adjacent groups of pages, each group allocated when one of its pages is first written.
 
 ghost use Rattle.std.specs.Prelude.{◌≡◌, ◌≢◌, ℕ, ◌+◌, ◌-◌, ◌*◌, ◌/◌, ◌<◌, ◌≤◌, ◌==◌, ◌&&◌, IfOk, IfSome, OnOk, OnErr, None, Some, false, true, if◌then◌else◌, is_some};
 ghost use Rattle.pmp_encoding.specs.Registers.{byte_of};
@@ -8,20 +8,20 @@ ghost use Rattle.hart_sim.specs.Groups.{byte_in, has_group, page_on};
 use crate::page_group::{GROUP, PageGroup, group_of};
 use std::alloc::{AllocError, Global};
 
-/// How many pages a span has.
+/// Number of pages in a span.
 pub(crate) const SPAN: u64 = 4096;
 
-/// A group that is not there.
+/// A group that does not exist.
 const NO_GROUP: Option<Box<PageGroup>> = None;
 
-/// 64 groups of pages side by side, of 16 MiB.
+/// 64 adjacent groups of pages, 16 MiB.
 #[derive(Drop)]
 pub struct PageSpan {
     groups: [Option<Box<PageGroup>>; 64],
 }
 
 impl PageSpan {
-    /// No page was written.
+    /// Returns a span without written pages.
     fn new() -> PageSpan
         ensures { (place : ℕ) → page_on result place ≡ None }
     {
@@ -30,7 +30,7 @@ impl PageSpan {
         }
     }
 
-    /// The bytes of a page, where it was written.
+    /// Returns the bytes of a page, if it has been written.
     #[inline(always)]
     pub(crate) fn page(&self, place: usize) -> Option<&[u8; 4096]>
         requires { place < 4096 }
@@ -43,8 +43,8 @@ impl PageSpan {
         }
     }
 
-    /// Puts the lowest bytes of a value into a page, which is written from then on. Only a page that was not written
-    /// takes memory.
+    /// Stores the lowest bytes of a value in a page, which then counts as written. Allocates only for a page that has
+    /// not been written.
     pub(crate) fn store(
         &mut self,
         alloc: Global,
@@ -71,8 +71,8 @@ impl PageSpan {
         self.store_in_new_group(alloc, place, at, size, value)
     }
 
-    /// Puts the lowest bytes of a value into a page of a group that is not there. It is separate so that a store to a group
-    /// that is there clears no room for another.
+    /// Stores the lowest bytes of a value in a page of a new group. It is a separate function to keep the stack frame
+    /// of other stores small.
     #[cold]
     #[inline(never)]
     fn store_in_new_group(
@@ -100,7 +100,7 @@ impl PageSpan {
         Ok(())
     }
 
-    /// Makes those pages of a group that lie from one on and before another zero, and not written.
+    /// Zeroes the pages `from..end` of a group, which then count as not written.
     fn forget_in(&mut self, group: usize, from: usize, end: usize)
         requires group { group < 64 }
         requires order { from ≤ end }
@@ -117,7 +117,7 @@ impl PageSpan {
         }
     }
 
-    /// Makes some of the pages zero, and not written.
+    /// Zeroes the pages `from..end`, which then count as not written.
     pub(crate) fn forget(&mut self, from: usize, end: usize)
         requires order { from ≤ end }
         requires inside { end ≤ 4096 }
@@ -130,7 +130,7 @@ impl PageSpan {
     }
 }
 
-/// A span of its own, with a value in one of its pages.
+/// Allocates a span with a value in one of its pages.
 pub(crate) fn span_of(
     alloc: Global,
     place: usize,

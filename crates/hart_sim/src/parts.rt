@@ -5,8 +5,8 @@ use context_switch::{Contexts, Hart};
 use monitor_core::Core;
 use std::alloc::Global;
 
-/// The monitor's core, memory, four harts, of which a platform may have fewer, and the registers of each world that no
-/// hart runs.
+/// The monitor's core, memory, four harts, of which a platform may have fewer, and the registers of each suspended
+/// world.
 #[derive(Drop)]
 pub(crate) struct MachineParts {
     pub(crate) alloc: Global,

@@ -1,4 +1,4 @@
-//! An event on a hart: it loads what it has to, and then the event happens.
+//! An event on a hart: the hart loads the host's entries if needed, and then the event takes place.
 
 use crate::hart_registers::set_register;
 use crate::parts::MachineParts;
@@ -20,7 +20,7 @@ impl MachineParts {
     ghost use Rattle.hart_sim.specs.States.{awoken};
     ghost use Rattle.hart_sim.specs.Steps.{DoesEvent, DoesBy, IsEvent, Step};
 
-    /// A register of the world that runs on a hart is set.
+    /// Sets a register of the world on a hart.
     #[inline(always)]
     fn set_register(&mut self, hart: u8, n: u8, value: u64) -> Reply
         requires on { IsOn self.old hart }
@@ -35,7 +35,7 @@ impl MachineParts {
         Reply::Done
     }
 
-    /// An event on a hart that is not marked.
+    /// Performs an event on a hart that is not marked.
     #[inline(always)]
     fn happen(&mut self, hart: u8, event: Event) -> Reply
         requires on { IsOn self.old hart }
@@ -63,7 +63,7 @@ impl MachineParts {
         }
     }
 
-    /// An event on a hart, which loads the host's entries first where it is marked.
+    /// Performs an event on a hart, which first loads the host's entries if it is marked.
     #[inline(always)]
     pub(crate) fn step(&mut self, hart: u8, event: Event) -> Reply
         requires on { IsOn self.old hart }

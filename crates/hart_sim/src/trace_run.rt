@@ -1,4 +1,4 @@
-//! A trace that happens to a machine, line by line, each reply written before the next line is read.
+//! Runs a trace on a machine line by line, and writes each reply before reading the next line.
 
 ghost use Rattle.std.specs.Prelude.{◌≡◌, ℕ, ◌-◌, ◌^◌, ◌<◌, List, Err, IfOk};
 ghost use Rattle.text_lines.specs.LineLoop.{DoesAll, StopsAt, StopsTooLong, StopsReading, StopsWriting, StopsForMemory, CountsReads, CountsWrites};
@@ -30,7 +30,7 @@ impl Machine {
     ghost use Rattle.hart_sim.specs.Machines.{state_of, KeepsBanksRight};
     ghost use Rattle.hart_sim.specs.Steps.{IsEvent};
 
-    /// The event that a line says, and its hart, which is one of the machine's; nothing for a line without words.
+    /// Parses the event of a line and its hart, which exists on the machine. Returns `None` for a line without words.
     #[inline(always)]
     pub fn event_in(&self, line: &[u8]) -> Result<Option<(u8, Event)>, NotUnderstood>
         ensures meaning { result_ok result
@@ -43,7 +43,7 @@ impl Machine {
         parse_line(line, self.harts())
     }
 
-    /// An event happens on a hart, and what follows the number in its reply is written. It is refused where it wants memory that is.
+    /// Performs an event on a hart, and writes the part of its reply after the number. Fails if an allocation fails.
     #[inline(always)]
     fn answer(&mut self, hart: u8, event: Event, answer: &mut Line) -> Result<bool, LineRefusal>
         requires hart { hart < (state_of self.old).table.layout.harts }
@@ -68,7 +68,7 @@ impl Machine {
         Ok(true)
     }
 
-    /// A call happens on a hart, and what follows the number in its reply is written, as for an event.
+    /// Performs a call on a hart, and writes the part of its reply after the number, as for an event.
     #[inline(always)]
     fn answer_call(
         &mut self,
@@ -148,10 +148,10 @@ impl Interpreter for Machine {
     }
 }
 
-/// Runs a trace on a machine: each line's event happens, and its reply is written before the next line is read. A line
-/// that is not understood ends it, as do more than 2^40 bytes, a device that fails, and a store that wants memory which
-/// is refused. The lines that were done are a run of their events from the state in which the machine was lent, and what
-/// was written is the text of its replies. Before a read that may have to wait, the sink hands on the lines that it holds.
+/// Runs a trace on a machine: performs each line's event, and writes its reply before reading the next line. Stops at
+/// an invalid line, after 2^40 bytes, at a device failure, and at a store for which an allocation fails. The effect of
+/// the completed lines is a run of their events from the machine's initial state, and the written text is that of the
+/// replies. Before a read that may block, the sink flushes its lines.
 pub fn run_lines<R: Source, M, W: LineSink<M>>(
     machine: &mut Machine,
     source: &mut R,
@@ -189,7 +189,7 @@ pub fn run_lines<R: Source, M, W: LineSink<M>>(
     interpret_lines::<_, R, M, W>(machine, source, sink)
 }
 
-/// Runs a trace on a machine as [`run_lines`] does, over any sink.
+/// Runs a trace on a machine as [`run_lines`] does, with any sink.
 pub fn run<R: Source, W: Sink>(
     machine: &mut Machine,
     source: &mut R,

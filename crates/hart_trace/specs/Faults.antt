@@ -1,5 +1,4 @@
--- What is wrong with a line that is none of a trace, and where: the first word that is not what
--- should be there.
+-- The faults of invalid trace lines, with their positions: the first unexpected word.
 use Rattle.std.specs.Prelude.{ℕ, ◌==◌, Bool, true, false, List, [], ◌∷◌, drop}
 use Rattle.std.specs.Prelude.{Option, Some, None, if◌then◌else◌, is_some, replicate}
 use Rattle.std.specs.List.{list_all, prefix_len}
@@ -26,15 +25,15 @@ use Rattle.hart_trace.specs.declared.fault.Reason.TheVariants.{Misfit, Missing, 
 use Rattle.hart_trace.specs.declared.fault.Reason.TheVariants.{EventOfRun}
 use Rattle.hart_trace.specs.Events.{Word, ◌>>=◌, hart_of, kind_of, meaning_of, mode_of, register_of}
 
--- a fault: how many bytes of the line come before the word at fault, the word, and the reason
+-- a fault: the number of bytes of the line before the word at fault, the word, and the reason
 abbrev pub Fault : Type 0
 Fault = ℕ × Word × Reason
 
--- the same of a value of the program
+-- the fault in a value of the program
 abbrev pub told : LineFault → Fault
 told fault = (fault.before, fault.word.now, fault.reason)
 
--- the words after the one that begins an event
+-- the slots of the words after the keyword of an event
 abbrev pub slots_of : EventKind → List Slot
 slots_of kinds.Fetch = Mode ∷ Size accesses.Fetch ∷ Address ∷ []
 slots_of kinds.Load = Mode ∷ Size accesses.Load ∷ Address ∷ []
@@ -43,16 +42,16 @@ slots_of kinds.Reg = Register ∷ Value ∷ []
 slots_of kinds.Ecall = replicate 8 Argument
 slots_of kinds.Irq = []
 
--- a call may have fewer
+-- the event may have fewer words: only a call
 abbrev pub may_end : EventKind → Bool
 may_end kinds.Ecall = true
 may_end _ = false
 
--- the size that a word says, where accesses of that kind have it
+-- the size in a word, if accesses of this kind have it
 abbrev pub size_of : Kind → Word → Option ℕ
 size_of kind word = number_of word >>= (λ size. if has_size kind size then Some size else None)
 
--- whether a word is what should be there
+-- the word fits the slot
 abbrev pub fits : Slot → Word → Bool
 fits Mode word = is_some (mode_of word)
 fits (Size kind) word = is_some (size_of kind word)
@@ -61,8 +60,8 @@ fits Value word = is_some (number_of word)
 fits Register word = is_some (register_of word)
 fits Argument word = is_some (number_of word)
 
--- what is wrong with the words of an event that should say these, after a word that ends at a
--- place: the first that does not, is wanting, or is too much
+-- the fault of the words of an event with these slots, after a word that ends at `end`: the first
+-- word that does not fit, is missing, or is too many
 abbrev pub slots_fault : EventKind → List Slot → List PlacedWord → ℕ → Option Fault
 slots_fault kind [] [] end = None
 slots_fault kind [] (placed ∷ words) end = Some (placed.0, placed.1, Extra kind)
@@ -72,16 +71,16 @@ slots_fault kind (slot ∷ slots) (placed ∷ words) end =
     if fits slot placed.1 then slots_fault kind slots words (end_of placed)
     else Some (placed.0, placed.1, Misfit slot)
 
--- what is wrong with an event whose first word begins this one, if any
+-- the fault of an event with this keyword, if any
 abbrev pub kind_fault : Option EventKind → PlacedWord → List PlacedWord → Option Fault
 kind_fault None keyword words = Some (keyword.0, keyword.1, UnknownEvent)
 kind_fault (Some kind) keyword words = slots_fault kind (slots_of kind) words (end_of keyword)
 
--- what is wrong with the words of an event
+-- the fault of the words of an event
 abbrev pub event_fault : PlacedWord → List PlacedWord → Option Fault
 event_fault keyword words = kind_fault (kind_of keyword.1) keyword words
 
--- the same after a word that ends at a place and names a hart: there is one word at least
+-- the fault of the words after a hart's name that ends at `end`: at least one word must follow
 abbrev pub named_fault : ℕ → List PlacedWord → Option Fault
 named_fault end [] = Some (end, [], NoEvent)
 named_fault end (keyword ∷ words) = event_fault keyword words
@@ -91,7 +90,7 @@ abbrev pub begins_with_at : Word → Bool
 begins_with_at [] = false
 begins_with_at (first ∷ rest) = first == 64
 
--- what is wrong with the words of a line
+-- the fault of the words of a line
 abbrev pub words_fault : ℕ → List PlacedWord → Option Fault
 words_fault harts [] = None
 words_fault harts (first ∷ words) =
@@ -99,12 +98,12 @@ words_fault harts (first ∷ words) =
     else if begins_with_at first.1 then Some (first.0, first.1, NoHart)
     else event_fault first words
 
--- what is wrong with a line that has a byte outside its comment that may not be there
+-- the fault of a line that has a byte outside its comment that is not allowed
 abbrev pub bytes_fault : List ℕ → Fault
 bytes_fault line = if has_mark line then (0, [], ByteOrderMark)
     else (prefix_len is_allowed line, drop (prefix_len is_allowed line) line, NoText)
 
--- what is wrong with a line that comes without its LF and its CR
+-- the fault of a line without its LF and CR
 abbrev pub line_fault : ℕ → List ℕ → Option Fault
 line_fault harts line =
     if list_all is_allowed (content_of line) then words_fault harts (placed_words (content_of line))
@@ -115,33 +114,33 @@ abbrev pub access_of_event : Event → Option Access
 access_of_event (events.Access access value) = Some access
 access_of_event _ = None
 
--- the access that `judge` takes of an event on a hart that is named, or is not
+-- the access that `judge` accepts, given the named hart, if any, and the event
 abbrev pub judged : Option ℕ → Event → Option Access
 judged (Some hart) event = None
 judged None event = access_of_event event
 
--- why `judge` does not take an event of `run` that is no access
+-- the reason why `judge` rejects an event that is not an access
 abbrev pub no_access_fault : Option Access → PlacedWord → Option Fault
 no_access_fault (Some access) first = None
 no_access_fault None first = Some (first.0, first.1, EventOfRun)
 
--- why `judge` does not take a line that begins with a word, by the hart that the word names and
--- what `run` understands: the word names a hart, or the event is no access
+-- the reason why `judge` rejects a line that `run` accepts: its first word names a hart, or its
+-- event is not an access
 abbrev pub run_fault : Option ℕ → PlacedWord → Event → Option Fault
 run_fault (Some hart) first event = Some (first.0, first.1, HartOfRun)
 run_fault None first event = no_access_fault (access_of_event event) first
 
--- the same of any line's words
+-- the same for the words of any line
 abbrev pub only_for_run : List PlacedWord → Option (ℕ × Event) → Option Fault
 only_for_run (first ∷ words) (Some said) = run_fault (hart_of 4 first.1) first said.1
 only_for_run _ _ = None
 
--- what is wrong with a line for `judge`, by what four harts make of it: it is for nobody, or for
--- `run` alone
+-- the fault of a line for `judge`, given its meaning with four harts: it is invalid, or only for
+-- `run`
 abbrev pub access_fault_by : Option (Option (ℕ × Event)) → List ℕ → Option Fault
 access_fault_by None line = line_fault 4 line
 access_fault_by (Some said) line = only_for_run (placed_words (content_of line)) said
 
--- what is wrong with a line that should be an access
+-- the fault of a line that should be an access
 abbrev pub access_fault : List ℕ → Option Fault
 access_fault line = access_fault_by (meaning_of 4 line) line

@@ -14,17 +14,17 @@ use Rattle.hart_trace.specs.declared.plain.Keyword.{Keyword}
 use Rattle.hart_trace.specs.declared.event.Event.{Event}
 use Rattle.hart_trace.specs.Events.{access_of, call_in, meaning_of, mode_of}
 
--- after a 0 it says that the number is hexadecimal: `x` or `X`
+-- the mark after a 0 that makes a number hexadecimal: `x` or `X`
 abbrev pub is_mark : ℕ → Bool
 is_mark b = b == 120 || b == 88
 
--- a letter for the mode, one for the size, and `0x` or `0X` before what follows
+-- a letter for the mode, a digit for the size, and `0x` or `0X`, followed by the rest
 abbrev pub Starts : List ℕ → Mode → ℕ → List ℕ → Type 0
 Starts text mode size behind = (m s x : ℕ) × (text ≡ m ∷ 32 ∷ s ∷ 32 ∷ 48 ∷ x ∷ behind)
     × (mode_of (m ∷ []) ≡ Some mode) × (number_of (s ∷ []) ≡ Some size) × (is_letter m ≡ true)
     × (is_letter s ≡ true) × (is_mark x ≡ true)
 
--- a text begins with letters that spell a number, and after them comes the rest
+-- the text begins with letters that spell a number, followed by the rest
 abbrev pub BeginsNumber : List ℕ → ℕ → List ℕ → Type 0
 BeginsNumber text value rest = (b : ℕ) × (word : List ℕ) × (text ≡ (b ∷ word) ++ rest)
     × (list_all is_letter (b ∷ word) ≡ true) × (number_of (b ∷ word) ≡ Some value)
@@ -35,18 +35,18 @@ keyword Fetch = codes "fetch"
 keyword Load = codes "load"
 keyword Store = codes "store"
 
--- the first eight bytes of a text make this number, the first of them lowest
+-- the first eight bytes of a text are this little-endian number
 abbrev pub BeginsWith : List ℕ → ℕ → Type 0
 BeginsWith text number = (8 ≤ length text) × (number ≡ from_le_bytes w64 text)
     × ((i : ℕ) → slice_index text i < 256)
 
--- a line whose first bytes under the mask are the number begins with the keyword and a blank
+-- a line whose first bytes under the mask equal the number begins with the keyword and a space
 pub record Tells (k : Keyword) : Type 0 where
   pub short : k.len < 8
   pub said : (line : List ℕ) (first : ℕ) → BeginsWith line first → bit_and first k.mask ≡ k.number
       → line ≡ keyword k.kind ++ 32 ∷ drop k.len line
 
--- a text begins with plain words that say an access of that kind, and has these words after it
+-- the text begins with plain words that spell an access of this kind and these further words
 pub record BeginsAccess (kind : Kind) (text : List ℕ) (access : Access) (words : List (List ℕ))
     (behind : List ℕ) : Type 0 where
   pub spelled : List ℕ
@@ -54,22 +54,22 @@ pub record BeginsAccess (kind : Kind) (text : List ℕ) (access : Access) (words
   pub plain : list_all is_plain spelled ≡ true
   pub said : access_of kind (split_words spelled) ≡ Some (access, words)
 
--- a text begins with plain words that make this call
+-- the text begins with plain words that spell this call
 pub record BeginsCall (text : List ℕ) (event : Event) (behind : List ℕ) : Type 0 where
   pub spelled : List ℕ
   pub parts : text ≡ spelled ++ behind
   pub plain : list_all is_plain spelled ≡ true
   pub said : call_in (split_words spelled) ≡ Some event
 
--- a text begins with a plain line that says this event, on the first hart
+-- the text begins with a plain line that means this event on the first hart
 pub record BeginsEvent (text : List ℕ) (event : Event) (behind : List ℕ) : Type 0 where
   pub line : List ℕ
   pub parts : text ≡ line ++ behind
   pub plain : list_all is_plain line ≡ true
   pub said : (harts : ℕ) → meaning_of harts line ≡ Some (Some (0, event))
 
--- a hart's name before what follows, or no name: what follows says on the first hart, the text says
--- on that one
+-- the text consists of a hart's name, or no name, and the rest: an event that the rest means on the
+-- first hart, the text means on the named hart
 pub record Named (harts : ℕ) (text : List ℕ) (hart : ℕ) (behind : List ℕ) : Type 0 where
   pub name : List ℕ
   pub parts : text ≡ name ++ behind

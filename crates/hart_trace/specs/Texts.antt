@@ -7,7 +7,7 @@ use Rattle.hart_trace.specs.declared.reply.Reply.{Reply}
 use Rattle.hart_trace.specs.declared.reply.Reply.TheVariants.{Done, Loaded, Fault, Call, Irq}
 use Rattle.hart_trace.specs.declared.reply.Reply.TheVariants.{NoMemory}
 
--- the line of the n-th event's reply. One that wanted memory has none
+-- the line of the n-th event's reply; a reply that is out of memory has none
 abbrev pub reply_text : ℕ → Reply → List ℕ
 reply_text n Done = decimal n ++ codes " ok\n"
 reply_text n (Loaded value) = decimal n ++ codes " ok 0x" ++ hex 16 value ++ codes "\n"
@@ -20,7 +20,7 @@ reply_text n (Irq world used) = decimal n ++ codes " irq " ++ decimal world ++ c
     ++ decimal used ++ codes "\n"
 reply_text n NoMemory = []
 
--- the lines of replies, the first of the n-th event
+-- the lines of replies, numbered from n on
 abbrev pub lines_from : ℕ → List Reply → List ℕ
 lines_from n [] = []
 lines_from n (reply ∷ replies) = reply_text n reply ++ lines_from (n + 1) replies

@@ -1,4 +1,4 @@
-//! What accesses are judged by.
+//! A trait for judges of accesses.
 
 ghost use Rattle.std.specs.Prelude.{Result};
 ghost use Rattle.pmp_match.specs.declared.access.Access.{Access};
@@ -6,12 +6,12 @@ ghost use Rattle.pmp_match.specs.declared.cause.Cause.{Cause};
 
 use pmp_match::{Access, Cause, Segments};
 
-/// What accesses are judged by: the registers of a hart, in one form or another.
+/// A judge of accesses: the registers of a hart in some form.
 pub trait AccessJudge {
-    /// What each access comes to.
+    /// The outcome of each access.
     ghost outcomes: { Self → Access → Result (Unit {0}) Cause → Type 0 };
 
-    /// What the access comes to.
+    /// Returns the outcome of the access.
     fn outcome(&self, access: &Access) -> Result<(), Cause>
         ensures { outcomes self.now access.now result };
 }

@@ -1,4 +1,4 @@
-//! Plain lines at the front of bytes in which more lines may follow: a line's end is found where its last number ends.
+//! Parses a plain line at the front of a buffer that may contain further lines: the line ends after its last number.
 
 ghost use Rattle.std.specs.Prelude.{◌≡◌, ℕ, ◌-◌, ◌≤◌, List, [], ◌∷◌, Some, IfSome, length, take};
 ghost use Rattle.text_lines.specs.Lines.{BeginsLine};
@@ -10,11 +10,11 @@ use crate::plain_events::{plain_call, plain_interrupt, plain_setting};
 use arrayvec::ArrayVec;
 use pmp_match::Access;
 
-/// This many bytes hold all of the longest plain line of an access, and its LF. With them, the compiler checks for no part of a line
-/// whether it is there.
+/// A number of bytes greater than the longest plain line of an access with its LF. With this many bytes, the compiler
+/// omits bounds checks for the parts of a line.
 const ENOUGH: usize = 64;
 
-/// How many bytes come before a text that begins with a LF.
+/// Returns the number of bytes before a text that begins with LF.
 #[inline(always)]
 fn len_before(ahead: &[u8], behind: &[u8]) -> Option<usize>
     requires { length behind.now ≤ length ahead.now }
@@ -28,11 +28,12 @@ fn len_before(ahead: &[u8], behind: &[u8]) -> Option<usize>
     }
 }
 
-/// The access of the plain line that some bytes begin with: its hart of `harts`, the access, the value that a store writes, 0 else, and
-/// how many bytes the line has before its LF. None says nothing of the bytes.
+/// Parses the access of a plain line at the front of a buffer: returns its hart, below `harts`, the access, the value
+/// that a store writes, otherwise 0, and the length of the line without its LF. `None` implies nothing about the
+/// buffer.
 ///
-/// There is a function for each form of event, and none of them returns an `Event`: it has room for a call's eight words, which
-/// would be copied with each.
+/// There is a function for each form of event, and none of them returns an `Event`: an `Event` has room for a call's
+/// eight words, which would be copied each time.
 #[inline(always)]
 pub fn access_ahead(ahead: &[u8], harts: u8) -> Option<(u8, Access, u64, usize)>
     requires { length ahead.now ≤ 1024 }
@@ -51,8 +52,8 @@ pub fn access_ahead(ahead: &[u8], harts: u8) -> Option<(u8, Access, u64, usize)>
     Some((hart, access, value, len))
 }
 
-/// The setting of a register by the plain line that some bytes begin with: its hart of `harts`, the register, the value, and how many
-/// bytes the line has before its LF. None says nothing of the bytes.
+/// Parses the setting of a register in a plain line at the front of a buffer: returns its hart, below `harts`, the
+/// register, the value, and the length of the line without its LF. `None` implies nothing about the buffer.
 #[inline(always)]
 pub fn setting_ahead(ahead: &[u8], harts: u8) -> Option<(u8, u8, u64, usize)>
     requires { length ahead.now ≤ 1024 }
@@ -67,8 +68,8 @@ pub fn setting_ahead(ahead: &[u8], harts: u8) -> Option<(u8, u8, u64, usize)>
     Some((hart, register, value, len))
 }
 
-/// The call of the plain line that some bytes begin with: its hart of `harts`, and how many bytes the line has before its LF. Its words
-/// are appended to a list without words. None says nothing of the bytes.
+/// Parses the call of a plain line at the front of a buffer: returns its hart, below `harts`, and the length of the
+/// line without its LF. Appends the call's words to an empty list. `None` implies nothing about the buffer.
 #[inline(always)]
 pub fn call_ahead(ahead: &[u8], harts: u8, words: &mut ArrayVec<u64, 8>) -> Option<(u8, usize)>
     requires few { length ahead.now ≤ 1024 }
@@ -84,8 +85,8 @@ pub fn call_ahead(ahead: &[u8], harts: u8, words: &mut ArrayVec<u64, 8>) -> Opti
     Some((hart, len))
 }
 
-/// The interrupt of the plain line that some bytes begin with: its hart of `harts`, and how many bytes the line has before its LF. None
-/// says nothing of the bytes.
+/// Parses the interrupt of a plain line at the front of a buffer: returns its hart, below `harts`, and the length of
+/// the line without its LF. `None` implies nothing about the buffer.
 #[inline(always)]
 pub fn interrupt_ahead(ahead: &[u8], harts: u8) -> Option<(u8, usize)>
     requires { length ahead.now ≤ 1024 }

@@ -1,4 +1,4 @@
-//! The answer to an access, as a line.
+//! The answer to an access as a line.
 
 ghost use Rattle.std.specs.Prelude.{◌≡◌, ◌+◌, ◌≤◌, ◌++◌, length, take};
 ghost use Rattle.hart_trace.specs.Answers.{answer_end, place_of};
@@ -6,14 +6,14 @@ ghost use Rattle.hart_trace.specs.Answers.{answer_end, place_of};
 use pmp_match::Cause;
 use text_lines::Line;
 
-/// What follows the number of an answer: the first bytes of a text.
+/// The part of an answer after its number: the first `len` bytes of a text.
 #[derive(Clone, Copy)]
 struct Ending {
     text: [u8; 16],
     len: usize,
 }
 
-/// The endings of all answers, by their places.
+/// The endings of all answers, by index.
 static ENDINGS: [Ending; 9] = [
     Ending {
         text: *b" ok\n            ",
@@ -53,7 +53,7 @@ static ENDINGS: [Ending; 9] = [
     },
 ];
 
-/// The place of an answer's ending: first where an access is allowed, then by exception code.
+/// Returns the index of an answer's ending: 0 for an allowed access, then by exception code.
 #[inline(always)]
 fn place_of(answer: Result<(), Cause>) -> usize
     ensures { result ≡ place_of answer }
@@ -64,7 +64,7 @@ fn place_of(answer: Result<(), Cause>) -> usize
     }
 }
 
-/// The ending of an answer, without a branch between them: it would be guessed wrong too often.
+/// Returns the ending of an answer, without a branch that would often be mispredicted.
 #[inline(always)]
 fn ending_of(answer: Result<(), Cause>) -> Ending
     ensures text { take result.len result.text ≡ answer_end answer }
@@ -73,7 +73,7 @@ fn ending_of(answer: Result<(), Cause>) -> Ending
     ENDINGS[place_of(answer)]
 }
 
-/// Writes what follows the number of an answer: ` ok`, or ` fault CAUSE`, and the line's end.
+/// Writes the part of an answer after its number: ` ok` or ` fault CAUSE`, and the end of the line.
 #[inline(always)]
 pub fn push_answer(line: &mut Line, answer: Result<(), Cause>)
     requires { length line.old + 16 ≤ 128 }

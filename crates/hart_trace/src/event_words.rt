@@ -1,4 +1,4 @@
-//! The words of an event, read one after another. The first that is not what should be there is at fault.
+//! Parses the words of an event in order. The first unexpected word is at fault.
 
 ghost use Rattle.std.specs.Prelude.{◌≡◌, ◌<◌, ◌≤◌, IfErr, IfOk, IfSome, Some, [], ◌∷◌, false, length, refl};
 ghost use Rattle.std.specs.Result.{result_ok};
@@ -15,7 +15,7 @@ use arrayvec::ArrayVec;
 use pmp_match::{Access, Kind, Mode};
 use text_lines::{Placed, is_text, next_word, number, numeral};
 
-/// That a word is at fault.
+/// Returns the fault of a word.
 pub(crate) fn fault_at<'a>(placed: Placed<'a>, reason: Reason) -> LineFault<'a>
     ensures { told result ≡ (placed.entry.before, placed.entry.word.now, reason) }
 {
@@ -26,7 +26,7 @@ pub(crate) fn fault_at<'a>(placed: Placed<'a>, reason: Reason) -> LineFault<'a>
     }
 }
 
-/// The event that a word begins.
+/// Returns the kind of event that a keyword begins.
 pub(crate) fn kind_of(word: &[u8]) -> Option<EventKind>
     ensures { result ≡ kind_of word.now }
 {
@@ -61,13 +61,13 @@ fn mode_of(word: &[u8]) -> Option<Mode>
     }
 }
 
-/// Which sizes up to 8 a fetch has.
+/// The sizes up to 8 of a fetch.
 static FETCHES: [bool; 9] = [false, false, true, false, true, false, false, false, false];
 
-/// Which sizes up to 8 a load and a store have.
+/// The sizes up to 8 of a load or a store.
 static OTHERS: [bool; 9] = [false, true, true, false, true, false, false, false, true];
 
-/// Whether the kind has the size, without a branch on the size: it would be guessed wrong too often.
+/// Returns whether the kind has the size, without a branch on the size, which would often be mispredicted.
 #[inline(always)]
 fn has_size(kind: Kind, size: u64) -> bool
     ensures { result ≡ has_size kind size }
@@ -81,7 +81,7 @@ fn has_size(kind: Kind, size: u64) -> bool
     }
 }
 
-/// The size that a word says, where accesses of that kind have it.
+/// Parses a size that accesses of this kind have.
 fn size_of(kind: Kind, word: &[u8]) -> Option<u64>
     ensures { result ≡ size_of kind word.now }
 {
@@ -131,7 +131,7 @@ fn register_of(word: &[u8]) -> Option<u8>
     }
 }
 
-/// The next word of an event from a place on, which should say this.
+/// Returns the next word of an event, which should fill this slot.
 fn word_in<'a>(
     event: EventKind,
     slot: Slot,
@@ -155,7 +155,7 @@ fn word_in<'a>(
     }
 }
 
-/// The mode that the next word says, and where it ends.
+/// Parses the next word as a mode, and returns the mode and the end of the word.
 fn mode_in<'a>(event: EventKind, text: &'a [u8], at: usize) -> Result<(Mode, usize), LineFault<'a>>
     requires { at ≤ length text.now }
     ensures read { IfOk result (λ found. Reads mode_of text.now at found.0 found.1) }
@@ -169,7 +169,7 @@ fn mode_in<'a>(event: EventKind, text: &'a [u8], at: usize) -> Result<(Mode, usi
     }
 }
 
-/// The size that the next word says, which accesses of that kind have, and where it ends.
+/// Parses the next word as a size that accesses of this kind have, and returns the size and the end of the word.
 fn size_in<'a>(
     event: EventKind,
     kind: Kind,
@@ -188,7 +188,7 @@ fn size_in<'a>(
     }
 }
 
-/// The number that the next word says, and where it ends.
+/// Parses the next word as a number, and returns the number and the end of the word.
 fn number_in<'a>(
     event: EventKind,
     slot: Slot,
@@ -206,7 +206,7 @@ fn number_in<'a>(
     }
 }
 
-/// The register that the next word says, and where it ends.
+/// Parses the next word as a register, and returns the register and the end of the word.
 fn register_in<'a>(
     event: EventKind,
     text: &'a [u8],
@@ -225,7 +225,7 @@ fn register_in<'a>(
     }
 }
 
-/// That no word is left.
+/// Checks that no word is left.
 fn end_in<'a>(event: EventKind, text: &'a [u8], at: usize) -> Result<(), LineFault<'a>>
     requires { at ≤ length text.now }
     ensures end { IfOk result (λ _. placed_at text.now at ≡ []) }
@@ -237,7 +237,7 @@ fn end_in<'a>(event: EventKind, text: &'a [u8], at: usize) -> Result<(), LineFau
     }
 }
 
-/// The access that the next three words say, and where they end.
+/// Parses the next three words as an access, and returns the access and the end of the last word.
 fn access_in<'a>(
     event: EventKind,
     kind: Kind,
@@ -259,7 +259,7 @@ fn access_in<'a>(
     Ok((access, end))
 }
 
-/// A fetch, from the word after `fetch` on.
+/// Parses the words after `fetch`.
 fn fetch_in<'a>(text: &'a [u8], at: usize) -> Result<Event, LineFault<'a>>
     requires { at ≤ length text.now }
     ensures value { result_ok result
@@ -271,7 +271,7 @@ fn fetch_in<'a>(text: &'a [u8], at: usize) -> Result<Event, LineFault<'a>>
     Ok(Event::Access(access, 0))
 }
 
-/// A load, from the word after `load` on.
+/// Parses the words after `load`.
 fn load_in<'a>(text: &'a [u8], at: usize) -> Result<Event, LineFault<'a>>
     requires { at ≤ length text.now }
     ensures value { result_ok result
@@ -283,7 +283,7 @@ fn load_in<'a>(text: &'a [u8], at: usize) -> Result<Event, LineFault<'a>>
     Ok(Event::Access(access, 0))
 }
 
-/// A store, from the word after `store` on.
+/// Parses the words after `store`.
 fn store_in<'a>(text: &'a [u8], at: usize) -> Result<Event, LineFault<'a>>
     requires { at ≤ length text.now }
     ensures value { result_ok result
@@ -296,7 +296,7 @@ fn store_in<'a>(text: &'a [u8], at: usize) -> Result<Event, LineFault<'a>>
     Ok(Event::Access(access, value))
 }
 
-/// The setting of a register, from the word after `reg` on.
+/// Parses the words after `reg`.
 fn setting_in<'a>(text: &'a [u8], at: usize) -> Result<Event, LineFault<'a>>
     requires { at ≤ length text.now }
     ensures value { result_ok result ≡ event_by EventKind.Reg (words_in (placed_at text.now at)) }
@@ -308,7 +308,7 @@ fn setting_in<'a>(text: &'a [u8], at: usize) -> Result<Event, LineFault<'a>>
     Ok(Event::Reg(register, value))
 }
 
-/// A call, from the word after `ecall` on.
+/// Parses the words after `ecall`.
 fn call_in<'a>(text: &'a [u8], at: usize) -> Result<Event, LineFault<'a>>
     requires { at ≤ length text.now }
     ensures value { result_ok result
@@ -330,7 +330,7 @@ fn call_in<'a>(text: &'a [u8], at: usize) -> Result<Event, LineFault<'a>>
     Ok(Event::Ecall(numbers))
 }
 
-/// An interrupt, from the word after `irq` on.
+/// Parses the words after `irq`.
 fn interrupt_in<'a>(text: &'a [u8], at: usize) -> Result<Event, LineFault<'a>>
     requires { at ≤ length text.now }
     ensures value { result_ok result ≡ event_by EventKind.Irq (words_in (placed_at text.now at)) }
@@ -340,7 +340,7 @@ fn interrupt_in<'a>(text: &'a [u8], at: usize) -> Result<Event, LineFault<'a>>
     Ok(Event::Irq)
 }
 
-/// The event of that kind that the words from a place on say.
+/// Parses the words from a position on as an event of this kind.
 fn event_by<'a>(kind: EventKind, text: &'a [u8], at: usize) -> Result<Event, LineFault<'a>>
     requires { at ≤ length text.now }
     ensures value { result_ok result ≡ event_by kind (words_in (placed_at text.now at)) }
@@ -356,7 +356,7 @@ fn event_by<'a>(kind: EventKind, text: &'a [u8], at: usize) -> Result<Event, Lin
     }
 }
 
-/// The event that this word begins, with the words after it.
+/// Parses the event of a keyword and the words after it.
 pub(crate) fn event_in<'a>(text: &'a [u8], keyword: Placed<'a>) -> Result<Event, LineFault<'a>>
     requires within { keyword.end ≤ length text.now }
     requires end { keyword.end ≡ end_of (keyword.before, keyword.word.now) }

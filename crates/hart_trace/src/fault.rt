@@ -1,34 +1,34 @@
-//! Why a line is none of a trace, and where.
+//! Faults of trace lines, with their positions.
 
 use pmp_match::Kind;
 
-/// What an event is.
+/// The kind of an event.
 #[derive(Clone, Copy, Debug, PartialEq, Eq)]
 pub enum EventKind {
-    /// An instruction is fetched.
+    /// An instruction fetch.
     Fetch,
-    /// Memory is read.
+    /// A read of memory.
     Load,
-    /// Memory is written.
+    /// A write to memory.
     Store,
-    /// A register is set.
+    /// A setting of a register.
     Reg,
-    /// The monitor is called.
+    /// A call to the monitor.
     Ecall,
-    /// The timer interrupts.
+    /// An interrupt of the timer.
     Irq,
 }
 
-/// What a word of an event says.
+/// The meaning of a word of an event.
 #[derive(Clone, Copy, Debug, PartialEq, Eq)]
 pub enum Slot {
     /// The mode of an access.
     Mode,
-    /// How many bytes an access of this kind has.
+    /// The number of bytes of an access of this kind.
     Size(Kind),
-    /// Where an access begins.
+    /// The address of an access.
     Address,
-    /// What is stored, or what a register is set to.
+    /// The value of a store or of a register setting.
     Value,
     /// The register that is set.
     Register,
@@ -36,41 +36,41 @@ pub enum Slot {
     Argument,
 }
 
-/// Why a line is not taken.
+/// The reason why a line is rejected.
 #[derive(Clone, Copy, Debug, PartialEq, Eq)]
 pub enum Reason {
     /// The line has more than 1023 bytes.
     LongLine,
-    /// A byte order mark begins it.
+    /// The line begins with a byte order mark.
     ByteOrderMark,
-    /// A byte outside its comment may not be there.
+    /// There is a byte outside the comment that is not allowed.
     NoText,
-    /// The first word begins with `@` and names no hart.
+    /// The first word begins with `@` but names no hart.
     NoHart,
     /// No word follows the hart.
     NoEvent,
-    /// The word begins no event.
+    /// The word is not a keyword of an event.
     UnknownEvent,
-    /// The word is not what should be there.
+    /// The word does not fit its slot.
     Misfit(Slot),
-    /// A word of the event is wanting.
+    /// A word of the event is missing.
     Missing(EventKind, Slot),
-    /// The event has no such word any more.
+    /// The event has no further words.
     Extra(EventKind),
-    /// The word names a hart for `run`, and `judge` has none.
+    /// The word names a hart, which is allowed for `run` but not for `judge`.
     HartOfRun,
-    /// The word begins an event for `run` that is no access, and `judge` takes accesses alone.
+    /// The word begins an event that is not an access, which is allowed for `run` but not for `judge`.
     EventOfRun,
 }
 
-/// A reason, the word at fault where there is one, and how many bytes of the line come before it. For a byte that may not be
-/// there the word is what begins with it.
+/// A reason, the word at fault, if there is one, and its position in the line. For a byte that is not allowed, the word
+/// is the rest of the line from that byte on.
 #[derive(Clone, Copy, Debug, PartialEq, Eq)]
 pub struct LineFault<'a> {
-    /// How many bytes of the line come before the word.
+    /// The number of bytes of the line before the word.
     pub before: usize,
-    /// The word at fault, without bytes where there is none.
+    /// The word at fault, or an empty one.
     pub word: &'a [u8],
-    /// What is wrong with it.
+    /// The reason for the fault.
     pub reason: Reason,
 }

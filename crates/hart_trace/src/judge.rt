@@ -1,4 +1,4 @@
-//! The accesses of a trace, judged line by line.
+//! Judges the accesses of a trace line by line.
 
 ghost use Rattle.std.specs.Prelude.{◌≡◌, ℕ, ◌+◌, ◌-◌, ◌^◌, ◌<◌, Some, Err, IfOk, IfSome};
 ghost use Rattle.text_lines.specs.LineLoop.{CountsReads, CountsWrites, DoesAll, StopsAt, StopsReading, StopsTooLong, StopsWriting};
@@ -13,8 +13,8 @@ use text_lines::{
     Direct, Interpreter, Line, LineRefusal, LineSink, RunFault, Sink, Source, interpret_lines,
 };
 
-/// The same access, field by field. As a whole it would be read in one piece while its fields, written just before, are on
-/// their way to memory, and the processor would wait for them.
+/// Returns the same access, copied field by field. A copy of the whole struct would read its fields in one piece right
+/// after they were written, which stalls the processor.
 #[inline(always)]
 fn taken_apart(access: Access) -> Access
     ensures { result ≡ access }
@@ -27,10 +27,10 @@ fn taken_apart(access: Access) -> Access
     }
 }
 
-/// What answers the access of each line.
+/// Answers the access of each line.
 #[derive(Drop)]
 pub struct LineJudge<'a, J> {
-    /// What accesses are judged by.
+    /// The judge of the accesses.
     pub by: &'a J,
 }
 
@@ -77,8 +77,8 @@ impl<J: AccessJudge> Interpreter for LineJudge<'_, J> {
     }
 }
 
-/// Judges the accesses of a trace: the first three forms of trace lines alone, without `@H`. A store changes nothing. The
-/// answer to each line is written before the next line is read. It takes no memory.
+/// Judges the accesses of a trace: only the first three forms of trace lines, without `@H`. A store changes nothing.
+/// The answer to each line is written before the next line is read. Does not allocate.
 pub fn judge_lines<J: AccessJudge, R: Source, M, W: LineSink<M>>(
     by: &J,
     source: &mut R,

@@ -1,12 +1,13 @@
-//! The events of a trace: what each of its lines says happens on a hart, what is wrong with a line that says nothing, and what accesses
-//! and replies are answered with.
+//! The events of a trace: the parser of its lines with its diagnostics, and the text of the answers to accesses and
+//! events.
 //!
-//! For the layer above: [`read_line`] understands a line exactly where the grammar of traces gives it a meaning, and answers that one,
-//! or the first word at fault with the reason; [`read_access`] does so for `judge`, which takes accesses alone, and [`parse_line`] leaves
-//! the reason out. [`access_ahead`], [`setting_ahead`], [`call_ahead`] and [`interrupt_ahead`] take the plain line that some bytes begin
-//! with, whose end need not be known: where they answer, the grammar gives it that meaning. [`judge_lines`] answers each access of a
-//! trace by what an [`AccessJudge`] says of it, in a line that is written before the next is read; [`judge_trace`] does so by the list
-//! that a bank's registers mean. [`push_reply`] puts a reply's line together. Nothing here takes memory.
+//! For the layer above: [`read_line`] parses a line iff the grammar of traces gives it a meaning, and returns that
+//! meaning, or the first word at fault with the reason. [`read_access`] does so for `judge`, which accepts only
+//! accesses, and [`parse_line`] omits the reason. [`access_ahead`], [`setting_ahead`], [`call_ahead`] and
+//! [`interrupt_ahead`] parse a plain line at the front of a buffer, whose end need not be known: if they return a
+//! result, it is the meaning that the grammar gives the line. [`judge_lines`] answers each access of a trace with the
+//! outcome of an [`AccessJudge`], in a line that is written before the next is read; [`judge_trace`] does so by the
+//! list that a bank's registers mean. [`push_reply`] writes a reply's line. Nothing here allocates.
 //!
 //! ```text
 //! match read_line(b"@1 store u 4 0x80000000 7", 2) {

@@ -1,4 +1,4 @@
-//! The line of a reply, in a buffer of a fixed length.
+//! Writes the line of a reply to a buffer of fixed length.
 
 ghost use Rattle.std.specs.Prelude.{◌≡◌, ◌≢◌, ℕ, [], ◌++◌, ◌+◌, ◌<◌, ◌≤◌, codes, decimal, length, replicate, take};
 ghost use Rattle.std.specs.Fmt.{signed_decimal};
@@ -34,7 +34,7 @@ fn push_word(line: &mut Line, value: u64)
     push_hex(line, value, 16);
 }
 
-/// Appends a world and a number of entries, and ends the line.
+/// Appends a world and a number of entries, and the end of the line.
 fn push_end(line: &mut Line, world: u64, used: u64)
     requires { length line.old + 43 ≤ 128 }
     ensures items { line.new ≡ line.old ++ codes " " ++ decimal world ++ codes " "
@@ -49,7 +49,7 @@ fn push_end(line: &mut Line, world: u64, used: u64)
     line.push(b'\n');
 }
 
-/// A world and a number of entries of one digit each, and the end of a line: the first five bytes.
+/// Returns a world and a number of entries of one digit each, and the end of a line, in the first five bytes.
 #[inline(always)]
 fn short_end(world: u64, used: u64) -> [u8; 16]
     requires world { world < 10 }
@@ -64,9 +64,9 @@ fn short_end(world: u64, used: u64) -> [u8; 16]
     ]
 }
 
-/// What follows the number of the reply to a call that is answered with 0, where the world and the number of entries have one
-/// digit each: sixteen bytes and fifteen. They are put together in lanes, so that a load of either meets what one store wrote, and need
-/// not wait for it.
+/// Returns the part after the number of the reply to a call with status 0, if the world and the number of entries have
+/// one digit each: 16 bytes and 15. They are assembled in SIMD lanes, so that a later load of either matches a single
+/// store and need not wait.
 #[inline(always)]
 fn short_call(value: u64, world: u64, used: u64) -> (u8x16, u8x16)
     requires world { world < 10 }
@@ -92,7 +92,7 @@ fn short_call(value: u64, world: u64, used: u64) -> (u8x16, u8x16)
     (first, second)
 }
 
-/// Writes what follows the number of the reply to a call.
+/// Writes the part after the number of the reply to a call.
 fn push_call(line: &mut Line, status: i64, value: u64, world: u64, used: u64)
     requires { line.old ≡ [] }
     ensures { line.new ≡ codes " call " ++ signed_decimal status ++ codes " 0x" ++ hex 16 value
@@ -114,7 +114,7 @@ fn push_call(line: &mut Line, status: i64, value: u64, world: u64, used: u64)
     push_end(line, world, used);
 }
 
-/// What follows the number of a reply to an access that failed, by its cause: the first nine bytes.
+/// The part after the number of the reply to a failed access, by its cause, in the first nine bytes.
 static FAULTS: [[u8; 16]; 8] = [
     *b" fault 0\n       ",
     *b" fault 1\n       ",
@@ -126,7 +126,7 @@ static FAULTS: [[u8; 16]; 8] = [
     *b" fault 7\n       ",
 ];
 
-/// The text of a fault, without a branch on its cause.
+/// Returns the text of a fault, without a branch on its cause.
 #[inline(always)]
 fn fault_text(cause: Cause) -> [u8; 16]
     ensures { take 9 result ≡ codes " fault " ++ decimal (cause_number cause) ++ codes "\n" }
@@ -134,7 +134,7 @@ fn fault_text(cause: Cause) -> [u8; 16]
     FAULTS[usize::from(cause.number())]
 }
 
-/// Writes what follows the number of an event's reply. There is nothing where the reply wanted memory.
+/// Writes the part of a reply after its number. A reply that is out of memory has no text.
 pub fn push_reply(line: &mut Line, reply: &Reply)
     requires { line.old ≡ [] }
     ensures text { reply.now ≢ NoMemory

@@ -1,6 +1,7 @@
-//! The accesses of a trace in their plainest spelling, as `load s 8 0x80000ff8`, with or without `@H` before it: one space
-//! between two words, the size a digit, the numbers hexadecimal, nothing else. Most lines of a long trace are such, and they
-//! are read in one pass, where the parser of all lines goes over each line several times. What is not plain is left to it.
+//! Parses accesses in their plainest spelling, such as `load s 8 0x80000ff8`, with or without `@H` before them: single
+//! spaces between words, a size of one digit, hexadecimal numbers, and nothing else. Most lines of a long trace have
+//! this form, and are parsed in one pass; the general parser visits each line several times. It handles all other
+//! lines.
 
 ghost use Rattle.std.specs.Prelude.{◌≡◌, ◌≤◌, ℕ, List, ◌∷◌, ◌++◌, [], Some, None, IfSome, true};
 ghost use Rattle.text_lines.specs.Numbers.{number_of};
@@ -16,7 +17,7 @@ use text_lines::leading_hexadecimal;
 /// The letter of a mode.
 #[derive(Clone, Copy)]
 struct ModeLetter {
-    /// The letter and a space as one number, the letter lowest.
+    /// The letter and a space as one number, with the letter in the lowest byte.
     number: u16,
     mode: Mode,
 }
@@ -31,12 +32,12 @@ const USER: ModeLetter = ModeLetter {
     mode: Mode::User,
 };
 
-/// The one that a letter can be, by the letter modulo 8. A branch between two of them would be guessed wrong at every other line.
+/// The candidate mode for each letter modulo 8. A branch between the two modes would be mispredicted half of the time.
 static MODES: [ModeLetter; 8] = [
     SUPERVISOR, SUPERVISOR, SUPERVISOR, SUPERVISOR, SUPERVISOR, USER, SUPERVISOR, SUPERVISOR,
 ];
 
-/// The mode that a letter names, where a space follows it.
+/// Returns the mode that a letter names, if a space follows it.
 #[inline(always)]
 pub(crate) fn plain_mode(letter: u8, space: u8) -> Option<Mode>
     ensures mode { IfSome result (λ mode. mode_of (letter ∷ []) ≡ Some mode) }
@@ -50,7 +51,7 @@ pub(crate) fn plain_mode(letter: u8, space: u8) -> Option<Mode>
     Some(named.mode)
 }
 
-/// The number that a digit spells, and more than 9 of another byte.
+/// Returns the number that a digit spells, or more than 9 for any other byte.
 #[inline(always)]
 fn plain_size(byte: u8) -> u64
     ensures size { result ≤ 9 → number_of (byte ∷ []) ≡ Some result }
@@ -59,7 +60,7 @@ fn plain_size(byte: u8) -> u64
     u64::from(byte.wrapping_sub(b'0'))
 }
 
-/// Whether two bytes are a space and the `0` after it. As one number they take one comparison.
+/// Returns whether two bytes are a space and `0`. As one number they need one comparison.
 #[inline(always)]
 fn begin_number(space: u8, zero: u8) -> bool
     ensures { result ≡ true → (space ≡ 32) × (zero ≡ 48) }
@@ -67,7 +68,7 @@ fn begin_number(space: u8, zero: u8) -> bool
     u16::from_le_bytes([space, zero]) == u16::from_le_bytes([b' ', b'0'])
 }
 
-/// The mode and size of an access, and what follows the `0x` or `0X` of its address.
+/// Returns the mode and the size of an access, and the text after the `0x` or `0X` of its address.
 #[inline(always)]
 fn plain_start(rest: &[u8]) -> Option<(Mode, u64, &[u8])>
     ensures { IfSome result (λ start. Starts rest.now start.0 start.1 start.2.now) }
@@ -86,7 +87,7 @@ fn plain_start(rest: &[u8]) -> Option<(Mode, u64, &[u8])>
     Some((mode, size, digits))
 }
 
-/// What follows ` 0x`.
+/// Returns the text after ` 0x`.
 #[inline(always)]
 fn behind_blank(text: &[u8]) -> Option<&[u8]>
     ensures { IfSome result (λ digits. text.now ≡ 32 ∷ 48 ∷ 120 ∷ digits.now) }
@@ -97,7 +98,7 @@ fn behind_blank(text: &[u8]) -> Option<&[u8]>
     }
 }
 
-/// The first eight bytes of a line as one number, the first of them lowest.
+/// Returns the first eight bytes of a line as a little-endian number.
 #[inline(always)]
 fn first_bytes(line: &[u8]) -> Option<u64>
     ensures { IfSome result (λ number. BeginsWith line.now number) }
@@ -108,15 +109,15 @@ fn first_bytes(line: &[u8]) -> Option<u64>
     Some(u64::from_le_bytes(u8x8::from_slice(line).to_array()))
 }
 
-/// The keyword of a kind of access, with the blank after it.
+/// The keyword of a kind of access, with the space after it.
 #[derive(Clone, Copy)]
 struct Keyword {
     kind: Kind,
-    /// How many bytes it has.
+    /// The length in bytes.
     len: usize,
-    /// All bits of that many bytes.
+    /// The mask of that many bytes.
     mask: u64,
-    /// Those bytes as one number, the first of them lowest.
+    /// The bytes as a little-endian number.
     number: u64,
 }
 
@@ -141,11 +142,11 @@ const FETCH: Keyword = Keyword {
     number: 0x2068_6374_6566,
 };
 
-/// The one that a line can begin with, by its first byte modulo 8. A branch between a load and a fetch would be guessed wrong at every
-/// other line.
+/// The candidate keyword for the first byte of a line modulo 8. A branch between a load and a fetch would be
+/// mispredicted half of the time.
 static KEYWORDS: [Keyword; 8] = [LOAD, LOAD, LOAD, STORE, LOAD, LOAD, FETCH, LOAD];
 
-/// The keyword that a line can begin with which has these first bytes.
+/// Returns the keyword that a line with these first bytes may begin with.
 #[inline(always)]
 fn keyword_of(first: u64) -> Keyword
     ensures { Tells result }
@@ -153,7 +154,7 @@ fn keyword_of(first: u64) -> Keyword
     KEYWORDS[(first % 8) as usize]
 }
 
-/// What follows the keyword of an access and its blank.
+/// Returns the kind of an access, and the text after its keyword and the space.
 #[inline(always)]
 fn behind_keyword(line: &[u8]) -> Option<(Kind, &[u8])>
     ensures { IfSome result (λ said. line.now ≡ keyword said.0 ++ 32 ∷ said.1.now) }
@@ -163,13 +164,13 @@ fn behind_keyword(line: &[u8]) -> Option<(Kind, &[u8])>
     if first & said.mask != said.number {
         return None;
     }
-    // Each length of the table is below 8. The remainder says so to the compiler: of 64 bytes it then knows that enough are left, and asks
-    // for no part of the line whether it is there.
+    // Each length in the table is below 8. The remainder tells the compiler so: with 64 bytes it then knows that enough
+    // are left, and omits bounds checks for the parts of the line.
     Some((said.kind, &line[said.len % 8..]))
 }
 
-/// The access of the plain line that a text begins with, which names no hart, the value that a store writes, 0 else, and what comes
-/// after it. None says nothing of the text.
+/// Parses the access of a plain line without a hart at the front of a text: returns the access, the value that a store
+/// writes, otherwise 0, and the text after it. `None` implies nothing about the text.
 #[inline(always)]
 pub(crate) fn plain_access(text: &[u8]) -> Option<(Access, u64, &[u8])>
     ensures { IfSome result (λ found.
@@ -189,7 +190,7 @@ pub(crate) fn plain_access(text: &[u8]) -> Option<(Access, u64, &[u8])>
     }
 }
 
-/// The hart that a line names, where `@H` and one space begin it, and what follows them.
+/// Returns the hart that a line names, if it begins with `@H` and one space, and the text after them.
 #[inline(always)]
 fn behind_hart(line: &[u8], harts: u8) -> Option<(u8, &[u8])>
     ensures { IfSome result (λ named.
@@ -204,7 +205,8 @@ fn behind_hart(line: &[u8], harts: u8) -> Option<(u8, &[u8])>
     }
 }
 
-/// The hart on which the event of a line happens, and what follows its name: where none is named so, hart 0 and the whole line.
+/// Returns the hart of a line's event, and the text after its name. If no hart is named, returns hart 0 and the whole
+/// line.
 #[inline(always)]
 pub(crate) fn hart_in(line: &[u8], harts: u8) -> (u8, &[u8])
     ensures { Named harts line.now result.0 result.1.now }

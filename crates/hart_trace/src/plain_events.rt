@@ -1,5 +1,5 @@
-//! The events of a trace that are no accesses, in their plainest spelling, as `reg x10 0x80000ff8`, `ecall 0x10 3` or `irq`, with
-//! or without `@H` before them: one space between two words, and nothing else. They too are read in one pass.
+//! Parses events other than accesses in their plainest spelling, such as `reg x10 0x80000ff8`, `ecall 0x10 3` or `irq`,
+//! with or without `@H` before them: single spaces between words, and nothing else. These too are parsed in one pass.
 
 ghost use Rattle.std.specs.Prelude.{◌≡◌, ℕ, ◌<◌, List, [], ◌∷◌, ◌++◌, Some, IfSome, true};
 ghost use Rattle.std.specs.List.{list_all};
@@ -12,7 +12,7 @@ use crate::event_words::has_leading_zero;
 use arrayvec::ArrayVec;
 use text_lines::{behind_mark, behind_space, leading_hexadecimal, leading_numeral};
 
-/// What follows the letter of a register.
+/// Returns the text after the letter of a register.
 fn behind_letter(text: &[u8]) -> Option<&[u8]>
     ensures { IfSome result (λ digits. text.now ≡ 120 ∷ digits.now) }
 {
@@ -22,7 +22,7 @@ fn behind_letter(text: &[u8]) -> Option<&[u8]>
     }
 }
 
-/// What follows `reg` and a space.
+/// Returns the text after `reg` and a space.
 fn behind_reg(line: &[u8]) -> Option<&[u8]>
     ensures { IfSome result (λ rest. line.now ≡ 114 ∷ 101 ∷ 103 ∷ 32 ∷ rest.now) }
 {
@@ -32,7 +32,7 @@ fn behind_reg(line: &[u8]) -> Option<&[u8]>
     }
 }
 
-/// What follows `ecall` and a space.
+/// Returns the text after `ecall` and a space.
 fn behind_ecall(line: &[u8]) -> Option<&[u8]>
     ensures { IfSome result (λ rest. line.now
         ≡ 101 ∷ 99 ∷ 97 ∷ 108 ∷ 108 ∷ 32 ∷ rest.now) }
@@ -43,7 +43,7 @@ fn behind_ecall(line: &[u8]) -> Option<&[u8]>
     }
 }
 
-/// What follows `irq`.
+/// Returns the text after `irq`.
 fn behind_irq(line: &[u8]) -> Option<&[u8]>
     ensures { IfSome result (λ behind. line.now ≡ 105 ∷ 114 ∷ 113 ∷ behind.now) }
 {
@@ -53,7 +53,7 @@ fn behind_irq(line: &[u8]) -> Option<&[u8]>
     }
 }
 
-/// The first byte of a text, and what follows it.
+/// Returns the first byte of a text, and the text after it.
 fn first_byte(text: &[u8]) -> Option<(u8, &[u8])>
     ensures { IfSome result (λ found. text.now ≡ found.0 ∷ found.1.now) }
 {
@@ -63,8 +63,8 @@ fn first_byte(text: &[u8]) -> Option<(u8, &[u8])>
     }
 }
 
-/// The number of one decimal digit that a text begins with, where a space or a LF follows it, and the rest. Most numbers of a
-/// call are so short: they need no loop.
+/// Parses a number of one decimal digit, followed by a space or LF, and returns it and the text after it. Most numbers
+/// of a call are that short and need no loop.
 #[inline(always)]
 fn one_digit(text: &[u8]) -> Option<(u64, &[u8])>
     ensures { IfSome result (λ found. BeginsNumber text.now found.0 found.1.now) }
@@ -77,8 +77,8 @@ fn one_digit(text: &[u8]) -> Option<(u64, &[u8])>
     Some((u64::from(first - b'0'), behind))
 }
 
-/// The number of any number of decimal digits that a text begins with, and what follows it. It is not inlined, so that the others
-/// have no room to make.
+/// Parses a number of any number of decimal digits, and returns it and the text after it. It is not inlined, to keep
+/// the stack frame of its callers small.
 #[inline(never)]
 fn long_number(text: &[u8]) -> Option<(u64, &[u8])>
     ensures { IfSome result (λ found. BeginsNumber text.now found.0 found.1.now) }
@@ -87,7 +87,7 @@ fn long_number(text: &[u8]) -> Option<(u64, &[u8])>
     Some((value, behind))
 }
 
-/// The number that a text begins with, and what follows it.
+/// Parses a number, and returns it and the text after it.
 #[inline(always)]
 pub(crate) fn plain_number(text: &[u8]) -> Option<(u64, &[u8])>
     ensures { IfSome result (λ found. BeginsNumber text.now found.0 found.1.now) }
@@ -102,7 +102,7 @@ pub(crate) fn plain_number(text: &[u8]) -> Option<(u64, &[u8])>
     long_number(text)
 }
 
-/// The register that a text names before a space, and what follows that.
+/// Parses a register followed by a space, and returns it and the text after the space.
 fn plain_register(text: &[u8]) -> Option<(u8, &[u8])>
     ensures { IfSome result (λ found.
         (digits : List ℕ) × (text.now ≡ (120 ∷ digits) ++ 32 ∷ found.1.now)
@@ -117,7 +117,7 @@ fn plain_register(text: &[u8]) -> Option<(u8, &[u8])>
     Some((n as u8, rest))
 }
 
-/// The register set by the plain line with which a text begins, its value, and what follows the line.
+/// Parses the register setting of a plain line, and returns the register, its value, and the text after the line.
 #[inline(always)]
 pub(crate) fn plain_setting(text: &[u8]) -> Option<(u8, u64, &[u8])>
     ensures { IfSome result (λ found.
@@ -129,8 +129,7 @@ pub(crate) fn plain_setting(text: &[u8]) -> Option<(u8, u64, &[u8])>
     Some((register, value, end))
 }
 
-/// Appends the words of a call that a text begins with, of which there is one at least, to a list without words, and says what
-/// follows them.
+/// Appends the words of a call, of which there must be at least one, to an empty list, and returns the text after them.
 #[inline(always)]
 fn plain_words<'a>(rest: &'a [u8], words: &mut ArrayVec<u64, 8>) -> Option<&'a [u8]>
     requires { words.old.items ≡ [] }
@@ -151,7 +150,8 @@ fn plain_words<'a>(rest: &'a [u8], words: &mut ArrayVec<u64, 8>) -> Option<&'a [
     }
 }
 
-/// The same of the plain line of a call. The list is lent, since a call that is returned would be copied from place to place.
+/// Parses the call of a plain line in the same way. The list is borrowed, because a returned call would be copied
+/// several times.
 #[inline(always)]
 pub(crate) fn plain_call<'a>(text: &'a [u8], words: &mut ArrayVec<u64, 8>) -> Option<&'a [u8]>
     requires { words.old.items ≡ [] }
@@ -162,7 +162,7 @@ pub(crate) fn plain_call<'a>(text: &'a [u8], words: &mut ArrayVec<u64, 8>) -> Op
     plain_words(rest, words)
 }
 
-/// What follows the plain line of an interrupt with which a text begins.
+/// Parses the interrupt of a plain line, and returns the text after the line.
 #[inline(always)]
 pub(crate) fn plain_interrupt(text: &[u8]) -> Option<&[u8]>
     ensures { IfSome result (λ behind. BeginsEvent text.now events.Irq behind.now) }

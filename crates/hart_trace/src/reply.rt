@@ -5,16 +5,16 @@ ghost use Rattle.hart_trace.specs.declared.reply.Reply.TheVariants.{NoMemory};
 
 use pmp_match::Cause;
 
-/// What an event is answered with.
+/// The reply to an event.
 #[derive(Clone, Copy, PartialEq, Eq)]
 pub enum Reply {
-    /// A fetch, a store or a setting of a register was done.
+    /// A fetch, a store or a setting of a register succeeded.
     Done,
-    /// What a load read: the little-endian number of its bytes.
+    /// The value of a load: the little-endian number of its bytes.
     Loaded(u64),
     /// An access failed.
     Fault(Cause),
-    /// A call was answered. The world, 0 for the host, and the number of entries that are loaded are those after it.
+    /// A call was answered. The world, 0 for the host, and the number of loaded entries are those after the call.
     Call {
         status: i64,
         value: u64,
@@ -26,12 +26,12 @@ pub enum Reply {
         world: u64,
         used: u64,
     },
-    /// A store wanted memory that was refused, and nothing changed.
+    /// A store needed memory, the allocation failed, and nothing changed.
     NoMemory,
 }
 
 impl Reply {
-    /// Whether it says that memory was refused.
+    /// Returns whether the reply is out of memory.
     pub fn wants_memory(&self) -> bool
         ensures yes { result ≡ true → self.now ≡ NoMemory }
         ensures no { result ≡ false → self.now ≢ NoMemory }

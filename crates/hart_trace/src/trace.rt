@@ -1,4 +1,4 @@
-//! The lines of a trace, read word by word: what each says, or which word is at fault and why.
+//! Parses the lines of a trace word by word: returns the meaning of each, or the word at fault and the reason.
 
 ghost use Rattle.std.specs.Prelude.{◌≡◌, Some, IfErr, IfOk, IfSome, option_map};
 ghost use Rattle.std.specs.Result.{result_ok};
@@ -17,10 +17,10 @@ use text_lines::{
     NotUnderstood, Placed, allowed_len, are_allowed, content_of, has_mark, next_word,
 };
 
-/// How many harts a line may speak of at most.
+/// Maximum number of harts in a trace.
 const MOST_HARTS: u8 = 4;
 
-/// The hart that a word names, of `harts`.
+/// Returns the hart that a word names, below `harts`.
 fn hart_of(word: &[u8], harts: u8) -> Option<u8>
     ensures { result ≡ hart_of harts word.now }
 {
@@ -36,7 +36,7 @@ fn begins_with_at(word: &[u8]) -> bool
     matches!(word, [b'@', ..])
 }
 
-/// What is wrong with a line that has a byte outside its comment that may not be there.
+/// Returns the fault of a line that has a byte outside its comment that is not allowed.
 #[cold]
 fn byte_fault(line: &[u8]) -> LineFault<'_>
     ensures { told result ≡ bytes_fault line.now }
@@ -56,18 +56,18 @@ fn byte_fault(line: &[u8]) -> LineFault<'_>
     }
 }
 
-/// What a line says that has words.
+/// The meaning of a line that has words.
 #[derive(Drop)]
 struct Said<'a> {
-    /// Its first word.
+    /// The first word of the line.
     first: Placed<'a>,
-    /// The hart that this word names, where it names one.
+    /// The hart that this word names, if it names one.
     hart: Option<u8>,
-    /// What happens there, or on the first hart.
+    /// The event on that hart, or on hart 0.
     event: Event,
 }
 
-/// What the words of a line say.
+/// Parses the words of a line.
 fn said_by<'a>(content: &'a [u8], harts: u8) -> Result<Option<Said<'a>>, LineFault<'a>>
     ensures value { option_map (λ found. option_map event_said found) (result_ok result)
         ≡ said_by harts (words_in (placed_words content.now)) }
@@ -98,7 +98,7 @@ fn said_by<'a>(content: &'a [u8], harts: u8) -> Result<Option<Said<'a>>, LineFau
     Ok(Some(Said { first, hart, event }))
 }
 
-/// What a line says that comes without its LF and its CR.
+/// Parses a line without its LF and CR.
 fn said_in<'a>(line: &'a [u8], harts: u8) -> Result<Option<Said<'a>>, LineFault<'a>>
     ensures value { option_map (λ found. option_map event_said found) (result_ok result)
         ≡ meaning_of harts line.now }
@@ -113,8 +113,8 @@ fn said_in<'a>(line: &'a [u8], harts: u8) -> Result<Option<Said<'a>>, LineFault<
     said_by(content, harts)
 }
 
-/// The event of a line, and the hart that it happens on, where there are `harts` of them; otherwise what is wrong with the line. One
-/// without words has no event.
+/// Parses the event of a line and its hart, below `harts`, or returns the fault of the line. A line without words has
+/// no event.
 pub fn read_line<'a>(line: &'a [u8], harts: u8) -> Result<Option<(u8, Event)>, LineFault<'a>>
     ensures value { result_ok result ≡ meaning_of harts line.now }
     ensures fault { IfErr result (λ fault. line_fault harts line.now ≡ Some (told fault)) }
@@ -132,7 +132,7 @@ pub fn read_line<'a>(line: &'a [u8], harts: u8) -> Result<Option<(u8, Event)>, L
     }
 }
 
-/// The access of an event.
+/// Returns the access of an event.
 fn access_of_event(event: Event) -> Option<Access>
     ensures { result ≡ access_of_event event }
 {
@@ -142,7 +142,7 @@ fn access_of_event(event: Event) -> Option<Access>
     }
 }
 
-/// The access that a line says for `judge`, or why it is for `run` alone.
+/// Returns the access of a line for `judge`, or the reason why only `run` accepts it.
 fn judged<'a>(said: Said<'a>) -> Result<Access, LineFault<'a>>
     ensures value { result_ok result ≡ judged said.entry.hart said.entry.event }
     ensures fault { IfErr result (λ fault. run_fault said.entry.hart
@@ -158,7 +158,8 @@ fn judged<'a>(said: Said<'a>) -> Result<Access, LineFault<'a>>
     }
 }
 
-/// The access of a line, which names no hart, or what is wrong with the line for `judge`. One without words has none.
+/// Parses the access of a line without a hart, or returns the fault of the line for `judge`. A line without words has
+/// no access.
 pub fn read_access<'a>(line: &'a [u8]) -> Result<Option<Access>, LineFault<'a>>
     ensures value { result_ok result ≡ access_on line.now }
     ensures fault { IfErr result (λ fault. access_fault line.now ≡ Some (told fault)) }
@@ -170,7 +171,7 @@ pub fn read_access<'a>(line: &'a [u8]) -> Result<Option<Access>, LineFault<'a>>
     Ok(Some(access))
 }
 
-/// The event of a line, as [`read_line`] reads it.
+/// Parses the event of a line, as [`read_line`] does, without the fault.
 pub fn parse_line(line: &[u8], harts: u8) -> Result<Option<(u8, Event)>, NotUnderstood>
     ensures { result_ok result ≡ meaning_of harts line.now }
 {

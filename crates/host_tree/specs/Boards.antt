@@ -1,4 +1,4 @@
--- What a board has, of the ranges that its tree says.
+-- The harts and the memory of a board, by the ranges that its tree describes.
 use Rattle.std.specs.Prelude.{◌≡◌, ◌⊎◌, ℕ, ◌+◌, ◌%◌, ◌<◌, ◌≤◌}
 use Rattle.std.specs.Prelude.{Bool, false, not, cond, List, [], ◌∷◌, ◌++◌}
 use Rattle.device_tree.specs.declared.kinds.Kind.{Kind}
@@ -7,7 +7,7 @@ use Rattle.device_tree.specs.declared.kinds.Kind.TheVariants.{Reserved, Hart, Un
 use Rattle.device_tree.specs.declared.rows.Extent.{Extent}
 use Rattle.device_tree.specs.Meaning.{Range}
 
--- the kind is that of harts, or else that of memory
+-- the kind is that of harts or, if `hart` is false, that of memory
 abbrev pub is_kind : Kind → Bool → Bool
 is_kind Hart hart = hart
 is_kind Memory hart = not hart
@@ -16,11 +16,11 @@ is_kind Machine hart = false
 is_kind Reserved hart = false
 is_kind Untranslated hart = false
 
--- the extent of a range, if it is of that kind
+-- the extent of a range if it is of the wanted kind
 abbrev pub one_extent : Bool → Kind → Extent → List Extent
 one_extent hart kind extent = cond (is_kind kind hart) (extent ∷ []) []
 
--- the extents of harts, or else of memory
+-- the extents of harts or of memory
 abbrev pub extents_of : Bool → List Range → List Extent
 extents_of hart [] = []
 extents_of hart (first ∷ later) = one_extent hart first.kind first.extent ++ extents_of hart later
@@ -31,8 +31,8 @@ Has [] address = ⊥
 Has (first ∷ later) address = ((first.base ≤ address) × (address < first.base + first.size))
     ⊎ Has later address
 
--- of some bytes from a base on a board with this memory has so many: all, or whole pages, as many
--- as there are without a gap
+-- a board with this memory has `there` of the `size` bytes from `base` on without a gap: all of
+-- them, or as many whole pages as possible
 pub record AreThere (memory : List Extent) (base size there : ℕ) : Type 0 where
   pub within : there ≤ size
   pub has : (address : ℕ) → base ≤ address → address < base + there → Has memory address
@@ -43,13 +43,13 @@ pub record AreThere (memory : List Extent) (base size there : ℕ) : Type 0 wher
       → ((address : ℕ) → base ≤ address → address < base + more → Has memory address)
       → more ≤ there
 
--- a hart of that number is one of those
+-- one of these harts has that number
 abbrev pub IsHart : List Extent → ℕ → Type 0
 IsHart [] hart = ⊥
 IsHart (first ∷ later) hart = (first.base ≡ hart) ⊎ IsHart later hart
 
--- of so many harts, which are one at least, a board has these from hart 0 on: hart 0 boots, and
--- no other lacks below one that counts
+-- of at most `most` harts, a board has `there` from hart 0 on without a gap; hart 0 boots, so only
+-- the others need be listed
 pub record HartsThere (harts : List Extent) (most there : ℕ) : Type 0 where
   pub within : there ≤ most
   pub some : 0 < most → 0 < there

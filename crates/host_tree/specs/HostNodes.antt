@@ -1,4 +1,4 @@
--- The nodes of a tree as the host has them.
+-- The nodes of the host's tree.
 use Rattle.std.specs.Prelude.{◌≡◌, ℕ, List, [], ◌∷◌, ◌++◌, Option, None, Some, codes, map}
 use Rattle.device_tree.specs.Pieces.{Part, Setting, begins, has}
 use Rattle.device_tree.specs.Nodes.{BeginsNoNode, Nodes, no_nodes, node, parts_of_nodes}
@@ -16,24 +16,24 @@ use Rattle.host_tree.specs.Written.{Adds}
 use Rattle.host_tree.specs.Shares.{is_closed}
 use Rattle.host_tree.specs.Settings.{host_settings}
 
--- the rows of a node's registers: none where they are of no kind, or the node has no `reg`
+-- the rows of a node's registers: none if the node has no kind or no `reg`
 abbrev pub AreRegisters : Option Kind → Option (List ℕ) → Cells → List Extent → Type 0
 AreRegisters None reg cells rows = rows ≡ []
 AreRegisters (Some kind) None cells rows = rows ≡ []
 AreRegisters (Some kind) (Some reg) cells rows = AreRows cells reg rows
 
--- what a host has of the board: the harts below a number, and ranges of addresses
+-- the part of the board that a host may use: the harts below a number, and ranges of addresses
 pub record Portion : Type 0 where
   pub harts : ℕ
   pub ranges : List Extent
 
--- the properties of a node with these registers
+-- the properties that the host gets of a node with these registers
 abbrev pub node_settings : Portion → Place → Path → List Extent → List Setting → List Setting
 node_settings host place way rows own = host_settings (has_type (codes "cpu") (map has own))
     (is_closed host.harts host.ranges way (live_kind place (map has own)) rows (map has own)) own
 
--- nodes on a bus with these cells, whose addresses the root has in this way, are these of the host:
--- the same, one inside the other, in the same order, each with its properties as the host has them
+-- the host gets these nodes for the nodes on a bus with these cells and this way to the root's
+-- addresses: the same nodes, nested alike, in the same order, each with the host's properties
 pub data HostNodes (host : Portion) : Place → Cells → Path → Nodes → Nodes → Type 0 where
   nothing : {place : Place} {cells : Cells} {way : Path}
       → HostNodes host place cells way no_nodes no_nodes
@@ -50,8 +50,8 @@ pub data HostNodes (host : Portion) : Place → Cells → Path → Nodes → Nod
       → HostNodes host place cells way (node name properties children later)
       (node name (node_settings host place way rows properties) inside behind)
 
--- of a node of this name, with these parts as properties, before parts that begin with its
--- children, all was written as the host has it but for its end, and these parts are behind
+-- all of a node of this name and with these properties has been written as the host gets it, except
+-- its end, and `behind` are the parts after its children
 abbrev pub IsChild : Portion → Place → Cells → Path → List ℕ → List Part → List Part → List Part
     → TreeWriter → TreeWriter → Type 0
 IsChild host place cells way name properties inner behind old new = (own : List Setting)

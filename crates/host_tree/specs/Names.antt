@@ -1,4 +1,4 @@
--- The names of properties, one after another, each with the zero that ends it. Devicetree
+-- The names of properties, one after another, each with its terminating zero. Devicetree
 -- Specification 0.4, section 5.5.
 use Rattle.std.specs.Prelude.{ℕ, ◌+◌, List, drop, length}
 use Rattle.device_tree.specs.Words.{BeginsWithText}

@@ -1,4 +1,4 @@
--- What a host has of the board, and which nodes are not its own.
+-- The part of a board that its host may use, and the nodes that are closed to the host.
 use Rattle.std.specs.Prelude.{ℕ, ◌-◌, Bool, true, false, ◌&&◌, ◌||◌, not, leb, ltb}
 use Rattle.std.specs.Prelude.{List, [], ◌∷◌, Option, None, Some, codes}
 use Rattle.device_tree.specs.Pieces.{Part}
@@ -21,27 +21,27 @@ abbrev pub is_within : List Extent → Extent → Bool
 is_within [] extent = false
 is_within (first ∷ later) extent = is_around first extent || is_within later extent
 
--- an extent where the root has it is in one of the ranges, and the root has it
+-- an extent has an address at the root and is in one of the ranges there
 abbrev pub is_reached : List Extent → Option Extent → Bool
 is_reached ranges None = false
 is_reached ranges (Some extent) = is_within ranges extent
 
--- the host has a row of registers
+-- the host may use a row of registers
 abbrev pub is_hosts : List Extent → Path → Extent → Bool
 is_hosts ranges way row = is_reached ranges (at_root way row)
 
--- the host has all rows of registers
+-- the host may use all rows of registers
 abbrev pub are_hosts : List Extent → Path → List Extent → Bool
 are_hosts ranges way [] = true
 are_hosts ranges way (first ∷ later) = is_hosts ranges way first && are_hosts ranges way later
 
--- the host has the hart: its first number is below that
+-- the host may use the hart: the first of its numbers is below the limit
 abbrev pub has_hart : ℕ → List Extent → Bool
 has_hart harts [] = false
 has_hart harts (first ∷ later) = ltb first.base harts
 
--- a node with these registers is not the host's: a hart that the host has not, or a device of
--- which it has not all registers
+-- the host may use a node with these registers: a hart must be the host's, and so must all
+-- registers of a device
 abbrev pub is_kept : ℕ → List Extent → Path → Option Kind → List Extent → Bool
 is_kept harts ranges way None rows = true
 is_kept harts ranges way (Some Memory) rows = true
@@ -51,7 +51,7 @@ is_kept harts ranges way (Some Hart) rows = has_hart harts rows
 is_kept harts ranges way (Some Device) rows = are_hosts ranges way rows
 is_kept harts ranges way (Some Machine) rows = are_hosts ranges way rows
 
--- a node is not the host's: its registers are not, or they are another node's (`regmap`)
+-- a node is closed: the host may not use it, or its registers are another node's (`regmap`)
 abbrev pub is_closed : ℕ → List Extent → Path → Option Kind → List Extent → List Part → Bool
 is_closed harts ranges way kind rows properties = not (is_kept harts ranges way kind rows)
     || is_there (value_in (codes "regmap") properties)

@@ -1,4 +1,4 @@
-//! The parts of the structure block, one at the end of others.
+//! The tokens of the structure block, appended to a buffer.
 
 ghost use Rattle.std.specs.Prelude.{◌≡◌, ◌⊎◌, ◌≤◌, ◌+◌, ◌^◌, ◌++◌, IfErr, OnOk, List, ℕ, drop, length};
 ghost use Rattle.device_tree.specs.Pieces.{Setting, SpellsPart, begins, ends, has};
@@ -9,7 +9,7 @@ use crate::bytes::{put_text, put_value, put_word};
 use crate::names::word_of;
 use crate::write_fault::WriteFault;
 
-/// Appends the beginning of a node.
+/// Appends `FDT_BEGIN_NODE` and the name.
 pub(crate) fn put_begin(block: &mut Vec<u8>, name: &[u8]) -> Result<(), WriteFault>
     requires { IsText name.now }
     ensures put { OnOk result ((added : List ℕ) × (block.new.items ≡ block.old.items ++ added)
@@ -23,7 +23,7 @@ pub(crate) fn put_begin(block: &mut Vec<u8>, name: &[u8]) -> Result<(), WriteFau
     Ok(())
 }
 
-/// Appends a property whose name is at that place of the names.
+/// Appends a property whose name is at `place` in the strings block.
 pub(crate) fn put_property(
     block: &mut Vec<u8>,
     place: usize,
@@ -46,7 +46,7 @@ pub(crate) fn put_property(
     Ok(())
 }
 
-/// Appends the end of a node.
+/// Appends `FDT_END_NODE`.
 pub(crate) fn put_end(block: &mut Vec<u8>) -> Result<(), WriteFault>
     ensures put { OnOk result ((added : List ℕ) × (block.new.items ≡ block.old.items ++ added)
         × ((names rest : List ℕ) → SpellsPart names (added ++ rest) ends rest)) }

@@ -1,4 +1,4 @@
-//! Harts and memory of a board, as its tree says them.
+//! The harts and the memory of a board, read from its tree.
 
 ghost use Rattle.std.specs.Prelude.{◌≡◌, ◌⊎◌, ◌++◌, IfErr, IfOk, OnOk, List, true, false};
 ghost use Rattle.device_tree.specs.declared.reservations.Reservation.{Reservation};
@@ -18,14 +18,14 @@ use crate::write_fault::WriteFault;
 use device_tree::{Extent, Found, Kind, PlacedPiece, ranges_of, read_tree};
 use std::alloc::Global;
 
-/// What a board has: the numbers of its harts, each as the base of a row with no size, and ranges of memory.
+/// The hart numbers of a board, each as the base of an extent of size 0, and its ranges of memory.
 #[derive(Drop)]
 pub struct Board {
     pub harts: Vec<Extent>,
     pub memory: Vec<Extent>,
 }
 
-/// Whether a range is of that kind: of harts, or else of memory.
+/// Returns whether the kind is that of harts or, if `is_hart` is false, that of memory.
 fn is_kind(kind: Kind, is_hart: bool) -> bool
     ensures { result ≡ is_kind kind is_hart }
 {
@@ -36,7 +36,7 @@ fn is_kind(kind: Kind, is_hart: bool) -> bool
     }
 }
 
-/// Appends the extent of a range of that kind.
+/// Appends the extent of `found` if it is of the wanted kind.
 fn note(list: &mut Vec<Extent>, found: Found<'_>, is_hart: bool) -> Result<(), MakeFault>
     ensures noted { OnOk result (list.new.items ≡ list.old.items
         ++ one_extent is_hart found.entry.kind found.entry.extent) }
@@ -51,7 +51,7 @@ fn note(list: &mut Vec<Extent>, found: Found<'_>, is_hart: bool) -> Result<(), M
     Ok(())
 }
 
-/// The extents of the ranges of that kind.
+/// Returns the extents of all ranges of the wanted kind.
 fn extents_of(alloc: Global, found: &[Found<'_>], is_hart: bool) -> Result<Vec<Extent>, MakeFault>
     ensures ok { IfOk result (λ list. list.items ≡ extents_of is_hart (said_of found.now)) }
     ensures refused { IfErr result (λ fault. fault ≡ MakeFault.NotWritten WriteFault.Memory) }
@@ -63,7 +63,7 @@ fn extents_of(alloc: Global, found: &[Found<'_>], is_hart: bool) -> Result<Vec<E
     Ok(list)
 }
 
-/// Harts and memory by the pieces of a tree.
+/// Collects harts and memory from the pieces of a tree.
 fn board_in<'a>(alloc: Global, pieces: &'a [PlacedPiece<'a>]) -> Result<Board, MakeFault>
     ensures ok { IfOk result (λ board. (tree : Tree) → parts_of pieces.now ≡ parts_of_tree tree
         → (ranges : List Range) × TreeSays tree ranges
@@ -82,9 +82,10 @@ fn board_in<'a>(alloc: Global, pieces: &'a [PlacedPiece<'a>]) -> Result<Board, M
     Ok(Board { harts, memory })
 }
 
-/// Harts and memory of the board whose tree the bytes begin with, in the tree's order.
+/// Reads the harts and the memory of the board whose tree `bytes` begin with, in the tree's order.
 ///
-/// Refused where the bytes begin with no tree, or a node's cells or rows are not read. Memory can be refused for each piece.
+/// Fails if the bytes begin with no tree or if the cells or rows of a node cannot be read. An allocation can fail for
+/// each piece.
 pub fn board_of(alloc: Global, bytes: &[u8]) -> Result<Board, HostTreeFault>
     ensures ok { IfOk result (λ board. (tree : Tree) × (reservations : List Reservation)
         × ReadsAs bytes.now tree reservations × (ranges : List Range) × TreeSays tree ranges

@@ -1,4 +1,4 @@
-//! Bytes and numbers at the end of others.
+//! Byte strings and big-endian numbers, appended to a buffer.
 
 ghost use Rattle.std.specs.Prelude.{◌≡◌, ◌↔◌, ◌+◌, ◌-◌, ◌≤◌, ◌<◌, ◌^◌, ◌++◌, IsTrue, IfErr, OnOk, MatchOption, List, ℕ, length, replicate};
 ghost use Rattle.device_tree.specs.Words.{BeginsWithText, padded, text_len};
@@ -19,7 +19,7 @@ pub(crate) fn put_bytes(out: &mut Vec<u8>, bytes: &[u8]) -> Result<(), WriteFaul
     Ok(())
 }
 
-/// Appends a number of four bytes, the highest first.
+/// Appends a big-endian number of four bytes.
 #[tactic(auto, unfolding(crate::specs::Written::word_bytes))]
 pub(crate) fn put_word(out: &mut Vec<u8>, word: u32) -> Result<(), WriteFault>
     ensures put { OnOk result (out.new.items ≡ out.old.items ++ word_bytes word) }
@@ -31,7 +31,7 @@ pub(crate) fn put_word(out: &mut Vec<u8>, word: u32) -> Result<(), WriteFault>
     Ok(())
 }
 
-/// Appends a number of eight bytes, the highest first.
+/// Appends a big-endian number of eight bytes.
 #[tactic(auto, unfolding(crate::specs::Written::double_word_bytes))]
 pub(crate) fn put_double_word(out: &mut Vec<u8>, word: u64) -> Result<(), WriteFault>
     ensures put { OnOk result (out.new.items ≡ out.old.items ++ double_word_bytes word) }
@@ -43,7 +43,7 @@ pub(crate) fn put_double_word(out: &mut Vec<u8>, word: u64) -> Result<(), WriteF
     Ok(())
 }
 
-/// Appends that many zeros.
+/// Appends `count` zeros.
 pub(crate) fn put_zeros(out: &mut Vec<u8>, count: usize) -> Result<(), WriteFault>
     ensures put { OnOk result (out.new.items ≡ out.old.items ++ replicate count 0) }
     ensures refused { IfErr result (λ fault. fault ≡ WriteFault.Memory) }
@@ -58,7 +58,7 @@ pub(crate) fn put_zeros(out: &mut Vec<u8>, count: usize) -> Result<(), WriteFaul
     Ok(())
 }
 
-/// How many zeros follow that many bytes, of which `least` at least, up to a multiple of four.
+/// The number of zeros, at least `least`, that pad `len` bytes to a multiple of four.
 fn padding(len: usize, least: usize) -> usize
     requires len { len < 2 ^ 63 }
     requires least { least ≤ 1 }
@@ -67,7 +67,7 @@ fn padding(len: usize, least: usize) -> usize
     (len + least + 3) / 4 * 4 - len
 }
 
-/// Appends a value, and zeros up to a multiple of four.
+/// Appends a value, padded with zeros to a multiple of four.
 pub(crate) fn put_value(out: &mut Vec<u8>, value: &[u8]) -> Result<(), WriteFault>
     ensures put { OnOk result (out.new.items ≡ out.old.items ++ value_bytes value.now) }
     ensures refused { IfErr result (λ fault. fault ≡ WriteFault.Memory) }
@@ -77,7 +77,7 @@ pub(crate) fn put_value(out: &mut Vec<u8>, value: &[u8]) -> Result<(), WriteFaul
     Ok(())
 }
 
-/// Appends a text, the zero that ends it, and zeros up to a multiple of four.
+/// Appends a text and its terminating zero, padded with zeros to a multiple of four.
 pub(crate) fn put_text(out: &mut Vec<u8>, text: &[u8]) -> Result<(), WriteFault>
     ensures put { OnOk result (out.new.items ≡ out.old.items ++ text_bytes text.now) }
     ensures refused { IfErr result (λ fault. fault ≡ WriteFault.Memory) }
@@ -87,7 +87,7 @@ pub(crate) fn put_text(out: &mut Vec<u8>, text: &[u8]) -> Result<(), WriteFault>
     Ok(())
 }
 
-/// How many bytes come before the first zero.
+/// The number of bytes before the first zero.
 fn text_len(bytes: &[u8]) -> usize
     ensures within { result ≤ length bytes.now }
     ensures len { result ≡ text_len bytes.now }
@@ -95,14 +95,14 @@ fn text_len(bytes: &[u8]) -> usize
     memchr(0, bytes).unwrap_or(bytes.len())
 }
 
-/// Whether no byte is zero.
+/// Returns whether no byte is zero.
 pub(crate) fn is_text(bytes: &[u8]) -> bool
     ensures { IsTrue result ↔ IsText bytes.now }
 {
     text_len(bytes) == bytes.len()
 }
 
-/// The text in front, without the zero that ends it.
+/// Returns the text before the first zero, if there is a zero.
 pub(crate) fn text_in(bytes: &[u8]) -> Option<&[u8]>
     ensures { MatchOption result ((text : List ℕ) → BeginsWithText bytes.now text → ⊥)
         (λ text. BeginsWithText bytes.now text.now) }

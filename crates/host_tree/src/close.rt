@@ -1,4 +1,4 @@
-//! Which nodes are not the host's.
+//! Decides which nodes are closed to the host.
 
 ghost use Rattle.std.specs.Prelude.{◌≡◌, List, IfErr, IfOk, Option, None, Some, codes, drop, option_map};
 ghost use Rattle.device_tree.specs.Pieces.{parts_of};
@@ -17,7 +17,7 @@ use crate::share::Share;
 use device_tree::{Cells, Extent, Kind, Place, PlacedPiece, Way, kind_of, rows_of, value_of};
 use std::alloc::Global;
 
-/// Whether the host has all rows of registers.
+/// Returns whether the host may use all of these registers.
 fn are_hosts(share: &Share<'_>, way: &Way, rows: &[Extent]) -> bool
     ensures { result ≡ are_hosts share.now.ranges.now (path_of way.now) rows.now }
 {
@@ -29,7 +29,7 @@ fn are_hosts(share: &Share<'_>, way: &Way, rows: &[Extent]) -> bool
     true
 }
 
-/// Whether the host has a hart whose numbers are the bases of these rows: the first decides.
+/// Returns whether the first of these rows is the number of a hart that the host may use.
 fn has_hart(share: &Share<'_>, rows: &[Extent]) -> bool
     ensures { result ≡ has_hart share.now.harts rows.now }
 {
@@ -39,7 +39,7 @@ fn has_hart(share: &Share<'_>, rows: &[Extent]) -> bool
     }
 }
 
-/// Whether a node with registers of that kind is the host's.
+/// Returns whether the host may use a node of this kind with these registers.
 fn is_kept(share: &Share<'_>, way: &Way, kind: Option<Kind>, rows: &[Extent]) -> bool
     ensures { result
         ≡ is_kept share.now.harts share.now.ranges.now (path_of way.now) kind rows.now }
@@ -55,7 +55,7 @@ fn is_kept(share: &Share<'_>, way: &Way, kind: Option<Kind>, rows: &[Extent]) ->
     }
 }
 
-/// The rows of a node's registers: none where they are of no kind, or it has none.
+/// Parses the rows of a node's registers. The list is empty if the node has no kind or no `reg`.
 fn registers_of(
     alloc: Global,
     kind: Option<Kind>,
@@ -80,7 +80,7 @@ fn registers_of(
     }
 }
 
-/// Whether the registers of a node with these properties are another node's.
+/// Returns whether a node with these properties accesses its registers through another node.
 fn has_regmap<'a>(properties: &'a [PlacedPiece<'a>]) -> bool
     ensures { result ≡ is_there (value_in (codes "regmap") (parts_of properties.now)) }
 {
@@ -90,7 +90,7 @@ fn has_regmap<'a>(properties: &'a [PlacedPiece<'a>]) -> bool
     }
 }
 
-/// Whether a node with these properties is not the host's, by its place and its bus.
+/// Returns whether a node with these properties is closed to the host, given its place and its bus.
 pub(crate) fn is_closed<'a>(
     alloc: Global,
     share: &Share<'_>,

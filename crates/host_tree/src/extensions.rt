@@ -1,4 +1,4 @@
-//! The names of a hart's extensions, without those that the monitor closes.
+//! Removes the extensions that the monitor closes from a hart's list.
 
 ghost use Rattle.std.specs.Prelude.{◌≡◌, ◌++◌, ◌∷◌, IfErr, IfOk, OnOk, List, [], drop};
 ghost use Rattle.host_tree.specs.Extensions.{is_closed_name, kept_unit, open_from, open_names};
@@ -7,8 +7,8 @@ use crate::fault::MakeFault;
 use crate::write_fault::WriteFault;
 use std::alloc::Global;
 
-/// Whether the monitor closes an extension of that name: its bits in `menvcfg`, `mseccfg` or `mstateen0` stay zero, it is of counters
-/// of which `mcounteren` opens the time alone, or it wants calls that are not there.
+/// Returns whether the monitor closes the extension of that name: it needs bits in `menvcfg`, `mseccfg` or `mstateen0`
+/// that stay zero, counters other than the time, which alone `mcounteren` opens, or calls that the monitor lacks.
 fn is_closed_name(name: &[u8]) -> bool
     ensures { result ≡ is_closed_name name.now }
 {
@@ -45,7 +45,7 @@ fn put_bytes(out: &mut Vec<u8>, bytes: &[u8]) -> Result<(), MakeFault>
     Ok(())
 }
 
-/// Appends a separator and the name after it, where the name is not closed.
+/// Appends a separator and the name after it unless the name is closed.
 fn put_unit(out: &mut Vec<u8>, unit: &[u8]) -> Result<(), MakeFault>
     ensures put { OnOk result (out.new.items ≡ out.old.items ++ kept_unit unit.now) }
     ensures refused { IfErr result (λ fault. fault ≡ MakeFault.NotWritten WriteFault.Memory) }
@@ -59,7 +59,7 @@ fn put_unit(out: &mut Vec<u8>, unit: &[u8]) -> Result<(), MakeFault>
     put_bytes(out, unit)
 }
 
-/// A unit of one byte in place of another.
+/// Replaces the unit with one byte.
 fn begin_unit(unit: &mut Vec<u8>, byte: u8) -> Result<(), MakeFault>
     ensures put { OnOk result (unit.new.items ≡ byte ∷ []) }
     ensures refused { IfErr result (λ fault. fault ≡ MakeFault.NotWritten WriteFault.Memory) }
@@ -71,7 +71,7 @@ fn begin_unit(unit: &mut Vec<u8>, byte: u8) -> Result<(), MakeFault>
     Ok(())
 }
 
-/// A unit and one byte more.
+/// Appends a byte to the unit.
 fn add_byte(unit: &mut Vec<u8>, byte: u8) -> Result<(), MakeFault>
     ensures put { OnOk result (unit.new.items ≡ unit.old.items ++ byte ∷ []) }
     ensures refused { IfErr result (λ fault. fault ≡ MakeFault.NotWritten WriteFault.Memory) }
@@ -82,7 +82,7 @@ fn add_byte(unit: &mut Vec<u8>, byte: u8) -> Result<(), MakeFault>
     Ok(())
 }
 
-/// The names without those that are closed, with the `_` that comes before the first.
+/// Returns the names that are not closed, each after its separator; `_` precedes the first name.
 fn open_units(alloc: Global, names: &[u8]) -> Result<Vec<u8>, MakeFault>
     ensures ok { IfOk result (λ kept. kept.items ≡ open_from (95 ∷ []) names.now) }
     ensures refused { IfErr result (λ fault. fault ≡ MakeFault.NotWritten WriteFault.Memory) }
@@ -102,7 +102,7 @@ fn open_units(alloc: Global, names: &[u8]) -> Result<Vec<u8>, MakeFault>
     Ok(open)
 }
 
-/// The value of `riscv,isa` or `riscv,isa-extensions` without the names that are closed.
+/// Returns the value of `riscv,isa` or `riscv,isa-extensions` without the names that are closed.
 pub(crate) fn open_names(alloc: Global, names: &[u8]) -> Result<Vec<u8>, MakeFault>
     ensures ok { IfOk result (λ kept. kept.items ≡ open_names names.now) }
     ensures refused { IfErr result (λ fault. fault ≡ MakeFault.NotWritten WriteFault.Memory) }

@@ -1,31 +1,32 @@
-//! Why a host gets no tree.
+//! Reasons why a host gets no tree.
 
 ghost use Rattle.std.specs.Prelude.{◌≡◌};
 
 use crate::write_fault::WriteFault;
 use device_tree::{BoardReason, RowFault, TreeFault};
 
-/// Why of a tree that was read nothing is made.
+/// The reason why no tree can be made from one that was read.
 #[derive(Clone, Copy, Debug, PartialEq, Eq)]
 pub enum MakeFault {
-    /// A node's cells are no numbers from 0 to 4, or its `reg` or `ranges` has no rows. Memory can be refused here too.
+    /// The cells of a node are not numbers from 0 to 4, or its `reg` or `ranges` has no rows. An allocation can also
+    /// fail here.
     NotUnderstood(BoardReason),
-    /// An address or a size of a reserved range has more bits than the root's cells, or these are not one or two.
+    /// An address or a size of a reserved range does not fit into the root's cells, or these are not one or two.
     BadCells,
-    /// It is not written.
+    /// The tree could not be written.
     NotWritten(WriteFault),
 }
 
-/// Why a host gets no tree.
+/// The reason why a host gets no tree.
 #[derive(Clone, Copy, Debug, PartialEq, Eq)]
 pub enum HostTreeFault {
-    /// The board's bytes begin with no tree that is read here, or memory was refused.
+    /// The bytes begin with no readable tree, or an allocation failed.
     NotRead(TreeFault),
-    /// Of the tree nothing is made.
+    /// No tree can be made from the one that was read.
     NotMade(MakeFault),
 }
 
-/// What a node's rows were refused for.
+/// The fault for rows that cannot be parsed.
 pub(crate) fn rows_fault(fault: RowFault) -> MakeFault
     ensures { result ≡ MakeFault.NotUnderstood (BoardReason.BadRows fault) }
 {

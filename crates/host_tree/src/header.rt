@@ -1,4 +1,4 @@
-//! The header: where the blocks are, and how large.
+//! The header: position and size of each block.
 
 ghost use Rattle.std.specs.Prelude.{◌≡◌, ◌++◌, IfErr, OnOk, List, ℕ};
 ghost use Rattle.host_tree.specs.Written.{words_bytes};
@@ -10,15 +10,15 @@ use crate::write_fault::WriteFault;
 /// The first four bytes of a flattened device tree.
 const MAGIC: u32 = 0xd00d_feed;
 
-/// The version that is written, and the oldest that it is read as.
+/// The version written, and the oldest compatible one.
 const VERSION: u32 = 17;
 
 const OLDEST: u32 = 16;
 
-/// How many bytes the header has, and where the reservations begin.
+/// The size of the header; the reservations follow it.
 pub(crate) const HEADER: usize = 40;
 
-/// What a header says: places and sizes in bytes, and the number of the hart that boots.
+/// The variable fields of a header: offsets and sizes in bytes, and the number of the boot hart.
 #[derive(Clone, Copy)]
 pub(crate) struct Header {
     pub(crate) size: u32,

@@ -1,4 +1,4 @@
-//! The tree of the host.
+//! Writes the tree of the host.
 
 ghost use Rattle.std.specs.Prelude.{◌≡◌, ◌≤◌, ◌+◌, IfErr, IfOk, OnOk, [], ℕ, length};
 ghost use Rattle.device_tree.specs.Pieces.{parts_of};
@@ -21,7 +21,7 @@ use byteorder::{BigEndian, ByteOrder};
 use device_tree::{BoardReason, DeviceTree, PlacedPiece, cells_of, head_of, read_tree};
 use std::alloc::Global;
 
-/// Writes the host's tree of a board's, whose pieces these are.
+/// Writes the host's tree for a board whose tree has these pieces.
 fn put_tree<'a>(
     alloc: Global,
     share: &Share<'_>,
@@ -48,7 +48,7 @@ fn put_tree<'a>(
     Ok(())
 }
 
-/// The number of the hart that boots, as a tree's header says it.
+/// Reads the number of the boot hart from a tree's header.
 fn boot_hart_of(bytes: &[u8]) -> u32
     requires { 32 ≤ length bytes.now }
     ensures { result ≡ word_at bytes.now 28 }
@@ -56,7 +56,7 @@ fn boot_hart_of(bytes: &[u8]) -> u32
     BigEndian::read_u32(&bytes[28..])
 }
 
-/// The bytes of the host's tree of one that was read.
+/// Serializes the host's tree for a board's tree that was read.
 fn written<'a>(
     alloc: Global,
     share: &Share<'_>,
@@ -89,13 +89,15 @@ fn written<'a>(
     }
 }
 
-/// The device tree as a host has it, of the one that a board's bytes begin with. A node with registers that are not the host's, and
-/// a hart that it has not, has the status `disabled` (Devicetree Specification 0.4, section 2.3.4). Of a hart's extensions those
-/// that the monitor closes are taken out: names between `_` or zeros, without a version. Each range is a child of
-/// `/reserved-memory` with `no-map` (section 3.5). Nothing else is changed. So many bytes are free at its end.
+/// Builds the host's device tree from the one that a board's bytes begin with. A node whose registers the host may not
+/// use, and a hart that it may not use, get the status `disabled` (Devicetree Specification 0.4, section 2.3.4). The
+/// extensions that the monitor closes are removed from each hart: names between `_` or zeros, without a version. Each
+/// range becomes a child of `/reserved-memory` with `no-map` (section 3.5). Nothing else changes. `free` bytes are left
+/// at the end.
 ///
-/// Refused where the bytes begin with no tree, a node's cells or rows are not read, a range does not fit into the root's cells, which
-/// have to be one or two, or the tree would have 4 GiB. Memory can be refused for each piece and each byte.
+/// Fails if the bytes begin with no tree, the cells or rows of a node cannot be read, a range does not fit into the
+/// root's cells, which must be one or two, or the tree would reach 4 GiB. An allocation can fail for each piece and
+/// each byte.
 pub fn host_tree(
     alloc: Global,
     share: &Share<'_>,

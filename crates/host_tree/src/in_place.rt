@@ -1,4 +1,4 @@
-//! The host's tree in place of the board's.
+//! Replaces the board's tree with the host's.
 
 ghost use Rattle.std.specs.Prelude.{◌≡◌, ◌<◌, ◌++◌, IfErr, IfOk, OnErr, OnOk, List, ℕ, drop, length};
 ghost use Rattle.host_tree.specs.Platforms.{portion_in, reserved_in};
@@ -14,19 +14,19 @@ use crate::write_fault::WriteFault;
 use device_tree::Extent;
 use std::alloc::Global;
 
-/// How many bytes are free after the tree for who adds to it, where there is room for them.
+/// The free bytes after the tree for whoever extends it, if there is room for them.
 const FREE: u32 = 4096;
 
-/// Why a board's tree is left as it is.
+/// The reason why a board's tree is unchanged.
 #[derive(Clone, Copy, Debug, PartialEq, Eq)]
 pub enum PlaceFault {
-    /// There is no tree of the host.
+    /// The host's tree cannot be made.
     NoTree(HostTreeFault),
-    /// It is longer than its place.
+    /// The tree is longer than its place.
     NoRoom,
 }
 
-/// The ranges that are reserved: the monitor's, and the pool of enclaves where there is one.
+/// Lists the reserved ranges: the monitor's, and the pool of enclaves if it has a size.
 fn reserved_in(
     alloc: Global,
     platform: &PlatformWords,
@@ -58,7 +58,7 @@ fn reserved_in(
     Ok(list)
 }
 
-/// Puts bytes in front of a place, where they have room.
+/// Copies `bytes` to the beginning of `place` if they fit.
 fn put_front(place: &mut [u8], bytes: &[u8]) -> Result<(), PlaceFault>
     ensures done { OnOk result (place.new ≡ bytes.now ++ drop (length bytes.now) place.old) }
     ensures kept { OnErr result (place.new ≡ place.old) }
@@ -72,7 +72,7 @@ fn put_front(place: &mut [u8], bytes: &[u8]) -> Result<(), PlaceFault>
     Ok(())
 }
 
-/// The host's tree, with free bytes where there is room for them.
+/// Builds the host's tree, with free bytes if there is room for them.
 fn tree_for(
     alloc: Global,
     platform: &PlatformWords,
@@ -108,10 +108,10 @@ fn tree_for(
     Ok(shorter)
 }
 
-/// Writes the host's tree in place of the board's, which the bytes begin with. The pool is reserved too where it has a size. What is
-/// behind the tree stays.
+/// Overwrites the board's tree, which `place` begins with, with the host's. The pool is reserved too if it has a size.
+/// The bytes after the tree do not change.
 ///
-/// Refused where there is none or it has no room; then the bytes are as they were. Memory can be refused.
+/// On failure, because the host's tree cannot be made or does not fit, `place` is unchanged. Allocations can fail.
 pub fn put_host_tree(
     alloc: Global,
     platform: &PlatformWords,

@@ -1,4 +1,5 @@
-//! The device tree as a host gets it: the board's own, with what is not the host's closed, and with ranges that are reserved.
+//! Builds the host's device tree from the board's: nodes that the host may not use are disabled, and reserved ranges
+//! are added.
 #![tactic(auto)]
 
 mod blocks;

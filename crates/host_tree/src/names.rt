@@ -1,4 +1,4 @@
-//! The strings block: the names of properties, each with the zero that ends it.
+//! The strings block: the names of properties, each with its terminating zero.
 
 ghost use Rattle.std.specs.Prelude.{◌≡◌, ◌+◌, ◌≤◌, ◌<◌, ◌^◌, ◌++◌, IfErr, IfNone, IfOk, IfSome, OnOk, List, ℕ, drop, length};
 ghost use Rattle.device_tree.specs.Words.{BeginsWithText};
@@ -8,7 +8,7 @@ ghost use Rattle.host_tree.specs.Written.{IsText};
 use crate::bytes::{put_bytes, text_in};
 use crate::write_fault::WriteFault;
 
-/// What comes behind that many bytes, which are there.
+/// Returns the bytes after the first `n`.
 fn after(bytes: &[u8], n: usize) -> &[u8]
     requires { n ≤ length bytes.now }
     ensures { result.now ≡ drop n bytes.now }
@@ -16,7 +16,7 @@ fn after(bytes: &[u8], n: usize) -> &[u8]
     &bytes[n..]
 }
 
-/// Where the names have this one, if one of them is it.
+/// Finds the offset of `name` in the strings block.
 fn place_in(names: &[u8], name: &[u8]) -> Option<usize>
     ensures here { IfSome result (λ place. BeginsWithText (drop place names.now) name.now) }
     ensures inside { IfSome result (λ place. place ≤ length names.now) }
@@ -33,7 +33,7 @@ fn place_in(names: &[u8], name: &[u8]) -> Option<usize>
     None
 }
 
-/// A place as 32 bits have it.
+/// Converts an offset to 32 bits.
 pub(crate) fn word_of(place: usize) -> Result<u32, WriteFault>
     ensures same { IfOk result (λ word. word ≡ place) }
     ensures fits { OnOk result (place < 2 ^ 32) }
@@ -46,7 +46,7 @@ pub(crate) fn word_of(place: usize) -> Result<u32, WriteFault>
     Ok(place as u32)
 }
 
-/// Appends a name, and answers its place.
+/// Appends a name and returns its offset.
 fn add_name(names: &mut Vec<u8>, name: &[u8]) -> Result<usize, WriteFault>
     requires { IsText name.now }
     ensures put { IfOk result (λ place. BeginsWithText (drop place names.new.items) name.now
@@ -62,7 +62,7 @@ fn add_name(names: &mut Vec<u8>, name: &[u8]) -> Result<usize, WriteFault>
     Ok(place)
 }
 
-/// The place of a name, which is added where it is not there.
+/// Returns the offset of a name, which is appended if it is missing.
 pub(crate) fn place_of(names: &mut Vec<u8>, name: &[u8]) -> Result<usize, WriteFault>
     requires { IsText name.now }
     ensures put { IfOk result (λ place. BeginsWithText (drop place names.new.items) name.now

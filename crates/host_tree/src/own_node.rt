@@ -1,4 +1,4 @@
-//! The beginning of a node and its properties as the host has them.
+//! The beginning of a node and its properties in the host's tree.
 
 ghost use Rattle.std.specs.Prelude.{◌≡◌, ◌∷◌, IfErr, OnOk, List, codes, map};
 ghost use Rattle.device_tree.specs.Pieces.{Setting, begins, has, parts_of};
@@ -20,7 +20,7 @@ use crate::writer::TreeWriter;
 use device_tree::{Cells, Head, Place, Way, is_hart};
 use std::alloc::Global;
 
-/// Writes the beginning of a node and its properties, by its place and its bus.
+/// Writes the beginning of a node and its properties, given its place and its bus.
 pub(crate) fn put_head<'a>(
     alloc: Global,
     share: &Share<'_>,

@@ -1,4 +1,4 @@
-//! A new `/reserved-memory`.
+//! A new `/reserved-memory` node.
 
 ghost use Rattle.std.specs.Prelude.{◌≡◌, ◌<◌, ◌≤◌, ◌^◌, ◌++◌, IfErr, OnOk, List, [], map};
 ghost use Rattle.byteorder.specs.Endian.{big_bytes};
@@ -16,7 +16,7 @@ use byteorder::{BigEndian, ByteOrder};
 use device_tree::Cells;
 use std::alloc::Global;
 
-/// A number of cells, which are at most four.
+/// Encodes a number of cells, at most four.
 fn count_bytes(cells: usize) -> [u8; 4]
     requires { cells ≤ 4 }
     ensures { result ≡ big_bytes 4 cells }
@@ -39,7 +39,7 @@ fn put_settings(writer: &mut TreeWriter, cells: &Cells) -> Result<(), MakeFault>
     Ok(())
 }
 
-/// Writes a new `/reserved-memory` with ranges.
+/// Writes a new `/reserved-memory` that contains `ranges`.
 pub(crate) fn put_parent(
     alloc: Global,
     writer: &mut TreeWriter,

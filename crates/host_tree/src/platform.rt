@@ -1,4 +1,4 @@
-//! A platform as firmware has it, of which a board may have less.
+//! Adapts the firmware's platform to a board, which may have less.
 
 ghost use Rattle.std.specs.Prelude.{◌≡◌, ◌++◌, ◌∷◌, MatchOption, OnErr, OnOk, IfErr, IfOk, List, [], ℕ, suc, ◌*◌, ◌≤◌, drop, length};
 ghost use Rattle.device_tree.specs.declared.rows.Extent.{Extent};
@@ -12,7 +12,7 @@ use crate::write_fault::WriteFault;
 use device_tree::Extent;
 use std::alloc::Global;
 
-/// A platform as firmware has it: numbers of 64 bits, as `firmware/frames.h` lays them out.
+/// A platform in the firmware's layout: 64-bit numbers, as in `firmware/frames.h`.
 #[repr(C)]
 #[derive(Clone, Copy)]
 pub struct PlatformWords {
@@ -40,7 +40,7 @@ fn push(list: &mut Vec<Extent>, extent: Extent) -> Result<(), MakeFault>
     Ok(())
 }
 
-/// What comes behind that many words, which are there.
+/// Returns the words after the first `n`.
 fn behind(words: &[u64], n: usize) -> &[u64]
     requires { n ≤ length words.now }
     ensures { result.now ≡ drop n words.now }
@@ -48,7 +48,7 @@ fn behind(words: &[u64], n: usize) -> &[u64]
     &words[n..]
 }
 
-/// The pair in front, of a base and a size, and the words behind it.
+/// Splits off the first pair of base and size.
 #[tactic(auto, using(crate::proofs::Pairs::no_pair, crate::proofs::Pairs::one_pair))]
 fn first_pair(words: &[u64]) -> Option<(Extent, &[u64])>
     ensures { MatchOption result ((count : ℕ) → pairs_in count words.now ≡ [])
@@ -64,7 +64,7 @@ fn first_pair(words: &[u64]) -> Option<(Extent, &[u64])>
     Some((extent, behind(words, 2)))
 }
 
-/// The same of a base, a size and another number.
+/// Splits off the first triple of base, size and another number, which is dropped.
 #[tactic(auto, using(crate::proofs::Pairs::no_triple, crate::proofs::Pairs::one_triple))]
 fn first_triple(words: &[u64]) -> Option<(Extent, &[u64])>
     ensures { MatchOption result ((count : ℕ) → triples_in count words.now ≡ [])
@@ -80,7 +80,7 @@ fn first_triple(words: &[u64]) -> Option<(Extent, &[u64])>
     Some((extent, behind(words, 3)))
 }
 
-/// Appends the extents of so many pairs, or of as many as there are.
+/// Appends the extents of the first `count` pairs, or of all if there are fewer.
 fn put_pairs(list: &mut Vec<Extent>, words: &[u64], count: u64) -> Result<(), MakeFault>
     ensures put { OnOk result (list.new.items ≡ list.old.items ++ pairs_in count words.now) }
     ensures refused { IfErr result (λ fault. fault ≡ MakeFault.NotWritten WriteFault.Memory) }
@@ -98,7 +98,7 @@ fn put_pairs(list: &mut Vec<Extent>, words: &[u64], count: u64) -> Result<(), Ma
     Ok(())
 }
 
-/// The same of a base, a size and another number.
+/// Appends the extents of the first `count` triples, or of all if there are fewer.
 fn put_triples(list: &mut Vec<Extent>, words: &[u64], count: u64) -> Result<(), MakeFault>
     ensures put { OnOk result (list.new.items ≡ list.old.items ++ triples_in count words.now) }
     ensures refused { IfErr result (λ fault. fault ≡ MakeFault.NotWritten WriteFault.Memory) }
@@ -117,7 +117,7 @@ fn put_triples(list: &mut Vec<Extent>, words: &[u64], count: u64) -> Result<(), 
 }
 
 impl PlatformWords {
-    /// The ranges of memory.
+    /// Returns the ranges of memory.
     fn memory(&self, alloc: Global) -> Result<Vec<Extent>, MakeFault>
         ensures ok { IfOk result
             (λ list. list.items ≡ pairs_in self.now.ram_count self.now.ram) }
@@ -129,7 +129,7 @@ impl PlatformWords {
         Ok(list)
     }
 
-    /// The ranges of addresses that its host has: memory and devices.
+    /// Returns the ranges of addresses that the host may use: memory and devices.
     pub fn ranges(&self, alloc: Global) -> Result<Vec<Extent>, MakeFault>
         ensures ok { IfOk result (λ list. list.items ≡ pairs_in self.now.ram_count self.now.ram
             ++ triples_in self.now.device_count self.now.device) }
@@ -143,7 +143,7 @@ impl PlatformWords {
     }
 }
 
-/// Appends as much of a range as a board with this memory has, if it has some.
+/// Appends the part of a range that a board with this memory has, if any.
 fn put_clipped(list: &mut Vec<Extent>, memory: &[Extent], range: Extent) -> Result<(), MakeFault>
     ensures put { OnOk result ((kept : List Extent)
         × (list.new.items ≡ list.old.items ++ kept) × clipped_one memory.now range kept) }
@@ -162,7 +162,7 @@ fn put_clipped(list: &mut Vec<Extent>, memory: &[Extent], range: Extent) -> Resu
     )
 }
 
-/// As much of each range as a board with this memory has.
+/// Clips each range to a board with this memory.
 fn clipped(alloc: Global, memory: &[Extent], ranges: &[Extent]) -> Result<Vec<Extent>, MakeFault>
     ensures ok { IfOk result (λ list. IsClipped memory.now ranges.now list.items) }
     ensures refused { IfErr result (λ fault. fault ≡ MakeFault.NotWritten WriteFault.Memory) }
@@ -189,7 +189,7 @@ fn put_words(words: &mut Vec<u64>, range: Extent) -> Result<(), MakeFault>
     Ok(())
 }
 
-/// The words of ranges, one after another.
+/// Concatenates the words of ranges.
 fn flat_words(alloc: Global, ranges: &[Extent]) -> Result<Vec<u64>, MakeFault>
     ensures ok { IfOk result (λ words. words.items ≡ flat_words ranges.now) }
     ensures len { IfOk result (λ words. length words.items ≡ 2 * length ranges.now) }
@@ -202,7 +202,7 @@ fn flat_words(alloc: Global, ranges: &[Extent]) -> Result<Vec<u64>, MakeFault>
     Ok(words)
 }
 
-/// The words of ranges, of which a platform has at most 32, in front of words that stay.
+/// Replaces the first words of `old` with those of the ranges. A platform has at most 32 ranges.
 fn words_of(alloc: Global, ranges: &[Extent], old: &[u64; 64]) -> Result<[u64; 64], MakeFault>
     requires { length ranges.now ≤ 32 }
     ensures ok { IfOk result
@@ -215,7 +215,7 @@ fn words_of(alloc: Global, ranges: &[Extent], old: &[u64; 64]) -> Result<[u64; 6
     Ok(words)
 }
 
-/// The ranges of a platform's memory that a board has, and their words.
+/// Clips the ranges of a platform's memory to the board, and returns their number and their words.
 fn left_of(
     alloc: Global,
     board: &Board,
@@ -233,11 +233,11 @@ fn left_of(
     Ok((left.as_slice().len() as u64, words))
 }
 
-/// Leaves of the platform what the board has whose tree the bytes begin with: harts from hart 0 on, and of each range of memory
-/// whole pages from its start on.
+/// Clips the platform to the board whose tree `bytes` begin with: to the harts from hart 0 on, and to whole pages from
+/// the start of each range of memory.
 ///
-/// Refused where the bytes begin with no tree, or a node's cells or rows are not read; then the platform is as it was. Memory can be
-/// refused.
+/// Fails, and leaves the platform unchanged, if the bytes begin with no tree or if the cells or rows of a node cannot
+/// be read. Allocations can fail.
 pub fn find_platform(
     alloc: Global,
     bytes: &[u8],

@@ -1,4 +1,4 @@
-//! The properties of a node as the host has them.
+//! The properties of a node in the host's tree.
 
 ghost use Rattle.std.specs.Prelude.{◌≡◌, ◌∷◌, IfErr, OnOk, List, [], map};
 ghost use Rattle.device_tree.specs.Pieces.{Setting, has, part_of, parts_of};
@@ -13,14 +13,14 @@ use crate::writer::TreeWriter;
 use device_tree::{Piece, PlacedPiece};
 use std::alloc::Global;
 
-/// Whether a property of that name names a hart's extensions.
+/// Returns whether a property of that name lists a hart's extensions.
 fn names_extensions(name: &[u8]) -> bool
     ensures { result ≡ names_extensions name.now }
 {
     name == b"riscv,isa".as_slice() || name == b"riscv,isa-extensions".as_slice()
 }
 
-/// Writes a property, of a hart without the extensions that are closed.
+/// Writes a property; closed extensions are removed from a hart's lists.
 fn put_host_value(
     alloc: Global,
     writer: &mut TreeWriter,
@@ -39,7 +39,7 @@ fn put_host_value(
     put_property(writer, name, value)
 }
 
-/// Writes what is left of a property.
+/// Writes a property unless it is the status of a closed node.
 fn put_left(
     alloc: Global,
     writer: &mut TreeWriter,
@@ -58,7 +58,7 @@ fn put_left(
     put_host_value(alloc, writer, name, value, is_hart)
 }
 
-/// Writes what is left of a piece that is a property.
+/// Writes what remains of a piece that is a property.
 fn put_piece(
     alloc: Global,
     writer: &mut TreeWriter,
@@ -76,7 +76,7 @@ fn put_piece(
     }
 }
 
-/// Writes the status of a node that is closed.
+/// Writes the status of a closed node.
 fn put_status(writer: &mut TreeWriter, is_closed: bool) -> Result<(), MakeFault>
     ensures put { OnOk result (Adds writer.old writer.new (map has (status_of is_closed))) }
     ensures refused { IfErr result (IsPutFault []) }
@@ -87,7 +87,7 @@ fn put_status(writer: &mut TreeWriter, is_closed: bool) -> Result<(), MakeFault>
     Ok(())
 }
 
-/// Writes what is left of properties.
+/// Writes what remains of all properties.
 fn put_all_left<'a>(
     alloc: Global,
     writer: &mut TreeWriter,
@@ -105,7 +105,7 @@ fn put_all_left<'a>(
     Ok(())
 }
 
-/// Writes the properties of a node as the host has them.
+/// Writes the properties of a node as the host gets them.
 pub(crate) fn put_properties<'a>(
     alloc: Global,
     writer: &mut TreeWriter,

@@ -1,4 +1,4 @@
-//! Parts of a tree, written.
+//! The tokens of a tree, written with `MakeFault` as the error.
 
 ghost use Rattle.std.specs.Prelude.{◌∷◌, IfErr, OnOk, []};
 ghost use Rattle.device_tree.specs.Pieces.{begins, ends, has};

@@ -9,7 +9,7 @@ use crate::bytes::put_double_word;
 use crate::write_fault::WriteFault;
 use device_tree::Reservation;
 
-/// Whether it is the pair of zeros that ends reservations.
+/// Returns whether this is the pair of zeros that terminates the list.
 fn is_end(address: u64, size: u64) -> bool
     ensures { IsTrue result ↔ ((address ≡ 0) × (size ≡ 0)) }
 {
@@ -34,7 +34,7 @@ fn put_reservation(out: &mut Vec<u8>, address: u64, size: u64) -> Result<(), Wri
     Ok(())
 }
 
-/// Appends the pair of zeros that ends reservations.
+/// Appends the pair of zeros that terminates the list.
 fn put_end(out: &mut Vec<u8>) -> Result<(), WriteFault>
     ensures put { OnOk result ((added : List ℕ) × (out.new.items ≡ out.old.items ++ added)
         × (length added ≡ 16)
@@ -46,7 +46,7 @@ fn put_end(out: &mut Vec<u8>) -> Result<(), WriteFault>
     Ok(())
 }
 
-/// Appends reservations, and the pair that ends them.
+/// Appends the reservations and the terminating pair of zeros.
 pub(crate) fn put_reservations(out: &mut Vec<u8>, list: &[Reservation]) -> Result<(), WriteFault>
     ensures put { OnOk result ((added : List ℕ) × (out.new.items ≡ out.old.items ++ added)
         × (length added ≡ 16 * (length list.now + 1))

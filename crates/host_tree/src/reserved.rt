@@ -1,4 +1,4 @@
-//! Ranges that are reserved, as nodes.
+//! Reserved ranges, written as nodes.
 
 ghost use Rattle.std.specs.Prelude.{◌≡◌, ◌⊎◌, ◌*◌, ◌<◌, ◌≤◌, ◌^◌, ◌++◌, ◌∷◌, OnOk, IfErr, IfOk, List, [], map, drop};
 ghost use Rattle.byteorder.specs.Endian.{big_bytes};
@@ -16,16 +16,16 @@ use byteorder::{BigEndian, ByteOrder};
 use device_tree::{Cells, Extent};
 use std::alloc::Global;
 
-/// What a range is reserved for.
+/// The use of a reserved range.
 #[derive(Clone, Copy, Debug, PartialEq, Eq)]
 pub enum Purpose {
-    /// The monitor: nobody else has it.
+    /// The monitor, which alone may access the range.
     Monitor,
     /// Enclaves: the node's `compatible` is `pmpmon,pool`.
     Pool,
 }
 
-/// A range that an operating system keeps off, or has for one purpose.
+/// A range that the operating system does not touch or uses for one purpose only.
 #[derive(Clone, Copy, Debug, PartialEq, Eq)]
 pub struct Reserved {
     pub purpose: Purpose,
@@ -43,7 +43,7 @@ fn put_bytes(out: &mut Vec<u8>, bytes: &[u8]) -> Result<(), MakeFault>
     Ok(())
 }
 
-/// Appends a digit to the base 16.
+/// Appends a hexadecimal digit.
 fn put_digit(out: &mut Vec<u8>, value: u8) -> Result<(), MakeFault>
     requires { value < 16 }
     ensures put { OnOk result (out.new.items ≡ out.old.items ++ hex_digit value ∷ []) }
@@ -56,7 +56,7 @@ fn put_digit(out: &mut Vec<u8>, value: u8) -> Result<(), MakeFault>
     Ok(())
 }
 
-/// Appends a number to the base 16, its lowest digits, at most so many.
+/// Appends the lowest `most` hexadecimal digits of a number, without leading zeros.
 fn put_hex(out: &mut Vec<u8>, most: u32, value: u64) -> Result<(), MakeFault>
     ensures put { OnOk result (out.new.items ≡ out.old.items ++ hex_text most value) }
     ensures refused { IfErr result (λ fault. fault ≡ MakeFault.NotWritten WriteFault.Memory) }
@@ -73,7 +73,7 @@ fn put_hex(out: &mut Vec<u8>, most: u32, value: u64) -> Result<(), MakeFault>
     Ok(())
 }
 
-/// What a node of a range is named by.
+/// The name of a range's node before the unit address.
 fn purpose_name(purpose: Purpose) -> &'static [u8]
     ensures { result.now ≡ purpose_name purpose }
 {
@@ -83,7 +83,7 @@ fn purpose_name(purpose: Purpose) -> &'static [u8]
     }
 }
 
-/// The name of a range's node.
+/// Returns the name of a range's node.
 fn range_name(alloc: Global, range: Reserved) -> Result<Vec<u8>, MakeFault>
     ensures ok { IfOk result (λ name. name.items ≡ range_name range) }
     ensures refused { IfErr result (λ fault. fault ≡ MakeFault.NotWritten WriteFault.Memory) }
@@ -95,7 +95,7 @@ fn range_name(alloc: Global, range: Reserved) -> Result<Vec<u8>, MakeFault>
     Ok(name)
 }
 
-/// Appends a number of so many cells: one or two.
+/// Appends a number of one or two cells.
 fn put_cells(out: &mut Vec<u8>, cells: usize, number: u64) -> Result<(), MakeFault>
     ensures spelt { OnOk result (out.new.items ≡ out.old.items ++ big_bytes (4 * cells) number) }
     ensures fits { OnOk result (number < 256 ^ (4 * cells)) }
@@ -115,7 +115,7 @@ fn put_cells(out: &mut Vec<u8>, cells: usize, number: u64) -> Result<(), MakeFau
     Err(MakeFault::BadCells)
 }
 
-/// An address and a size.
+/// Encodes an address and a size.
 fn reg_bytes(alloc: Global, cells: &Cells, extent: Extent) -> Result<Vec<u8>, MakeFault>
     ensures spelt { IfOk result (λ reg. reg.items ≡ reg_bytes cells.now extent) }
     ensures fits { OnOk result (Fits cells.now extent) }
@@ -128,7 +128,7 @@ fn reg_bytes(alloc: Global, cells: &Cells, extent: Extent) -> Result<Vec<u8>, Ma
     Ok(reg)
 }
 
-/// Writes for what an operating system may use a range.
+/// Writes `compatible` for a range that the operating system may use.
 fn put_compatible(writer: &mut TreeWriter, purpose: Purpose) -> Result<(), MakeFault>
     ensures put { OnOk result (Adds writer.old writer.new (map has (compatible_of purpose))) }
     ensures refused { IfErr result (IsPutFault []) }

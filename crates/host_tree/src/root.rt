@@ -1,4 +1,4 @@
-//! The children of the root, and among them `/reserved-memory`.
+//! The children of the root, with `/reserved-memory` among them.
 
 ghost use Rattle.std.specs.Prelude.{◌≡◌, ◌≤◌, ◌++◌, ◌∷◌, IfErr, IfOk, OnOk, List, [], bytes_eq, codes, length, map};
 ghost use Rattle.device_tree.specs.Pieces.{Part, Setting, ends, has, parts_of};
@@ -22,14 +22,14 @@ use crate::writer::TreeWriter;
 use device_tree::{Cells, Head, Place, PlacedPiece, Way, after_end, head_of, inner_of};
 use std::alloc::Global;
 
-/// Whether a node of that name has the ranges that are reserved.
+/// Returns whether the node of that name contains the reserved ranges.
 fn is_parent(name: &[u8]) -> bool
     ensures { result ≡ bytes_eq name.now (codes "reserved-memory") }
 {
     name == b"reserved-memory".as_slice()
 }
 
-/// Writes a child of the root but for its end, and answers the pieces from there on.
+/// Writes a child of the root except its end token, and returns the pieces that remain.
 fn put_child<'a>(
     alloc: Global,
     share: &Share<'_>,
@@ -60,7 +60,7 @@ fn put_child<'a>(
     }
 }
 
-/// Writes the children of the root as the host has them, with ranges that are reserved.
+/// Writes the children of the root as the host gets them, with the reserved ranges.
 pub(crate) fn put_children<'a>(
     alloc: Global,
     share: &Share<'_>,
@@ -101,7 +101,7 @@ pub(crate) fn put_children<'a>(
     }
 }
 
-/// Writes ranges and the end of `/reserved-memory`, and the nodes behind it.
+/// Writes the ranges and the end of `/reserved-memory`, and the nodes after it.
 fn put_last<'a>(
     alloc: Global,
     share: &Share<'_>,

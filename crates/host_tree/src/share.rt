@@ -1,4 +1,4 @@
-//! What a host has of the board.
+//! The part of a board that its host may use.
 
 ghost use Rattle.std.specs.Prelude.{◌≡◌, drop};
 ghost use Rattle.device_tree.specs.Windows.{path_of};
@@ -6,14 +6,14 @@ ghost use Rattle.host_tree.specs.Shares.{is_around, is_hosts, is_within};
 
 use device_tree::{Extent, Way};
 
-/// What a host has of the board: the harts below this number, and ranges of addresses, of devices and of memory.
+/// The part of a board that its host may use: the harts below a number, and ranges of addresses of devices and memory.
 #[derive(Clone, Copy)]
 pub struct Share<'a> {
     pub harts: u64,
     pub ranges: &'a [Extent],
 }
 
-/// Whether all of an extent is in a range.
+/// Returns whether all of an extent is in the range.
 fn is_around(range: Extent, extent: Extent) -> bool
     ensures { result ≡ is_around range extent }
 {
@@ -22,7 +22,7 @@ fn is_around(range: Extent, extent: Extent) -> bool
         && extent.size <= range.size - (extent.base - range.base)
 }
 
-/// Whether all of an extent is in one of the ranges.
+/// Returns whether all of an extent is in one of the ranges.
 fn is_within(ranges: &[Extent], extent: Extent) -> bool
     ensures { result ≡ is_within ranges.now extent }
 {
@@ -35,7 +35,8 @@ fn is_within(ranges: &[Extent], extent: Extent) -> bool
 }
 
 impl Share<'_> {
-    /// Whether the host has a row of registers: where the root has them, they are in one of its ranges.
+    /// Returns whether the host may use a row of registers, that is, whether the row's extent in the root's address
+    /// space is in one of the host's ranges.
     pub(crate) fn has(&self, way: &Way, row: Extent) -> bool
         ensures { result ≡ is_hosts self.now.ranges.now (path_of way.now) row }
     {

@@ -1,12 +1,12 @@
-//! A small board, and the tree of its host.
+//! Compares the host's tree of a small board with `dtc`'s.
 
 use crate::{Purpose, Reserved, Share, board_of, host_tree};
 use device_tree::Extent;
 use std::alloc::Global;
 use std::process::Abort;
 
-/// Memory of a page at 0x1000, two harts of which the second boots, and two devices, at 0x8000 and at 0x9000. Extensions of the first
-/// hart are `rv64imac_zkr_zicsr_ssctr` and `svadu`, `i`, `zkr`. `dtc -b 1` made it.
+/// Memory of one page at 0x1000, two harts, the second of which boots, and two devices, at 0x8000 and at 0x9000. The
+/// extensions of the first hart are `rv64imac_zkr_zicsr_ssctr` and `svadu`, `i`, `zkr`. Made by `dtc -b 1`.
 #[rattlefmt::skip]
 const BOARD: [u8; 573] = [
     0xd0, 0x0d, 0xfe, 0xed, 0, 0, 0x02, 0x3d, 0, 0, 0, 0x38, 0, 0, 0x01, 0xec, 0, 0, 0, 0x28, 0, 0,
@@ -38,8 +38,8 @@ const BOARD: [u8; 573] = [
     0x75, 0x73, 0,
 ];
 
-/// The same, but that the second hart and the second device are disabled, and the extensions `rv64imac_zicsr` and `i`; with the monitor's
-/// range below `/reserved-memory`. `dtc -b 1` made it.
+/// As above, except that the second hart and the second device are disabled, the extensions are `rv64imac_zicsr` and
+/// `i`, and `/reserved-memory` contains the monitor's range. Made by `dtc -b 1`.
 #[rattlefmt::skip]
 const HOST: [u8; 719] = [
     0xd0, 0x0d, 0xfe, 0xed, 0, 0, 0x02, 0xcf, 0, 0, 0, 0x38, 0, 0, 0x02, 0x70, 0, 0, 0, 0x28, 0, 0,

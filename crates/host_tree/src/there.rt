@@ -1,11 +1,11 @@
-//! How much of a platform a board has.
+//! Measures how much of a platform a board has.
 
 ghost use Rattle.std.specs.Prelude.{◌≡◌, ◌↔◌, ◌<◌, ◌≤◌, ◌+◌, ◌*◌, ◌^◌, ℕ, IsTrue, IfSome, IfNone, MatchOption, drop};
 ghost use Rattle.host_tree.specs.Boards.{AreThere, HartsThere, Has, IsHart};
 
 use device_tree::Extent;
 
-/// How many bytes from an address on one of the ranges has, where it has the address.
+/// Returns the number of bytes from an address to the end of a range that contains it, if one does.
 fn left_at(memory: &[Extent], address: u128) -> Option<u64>
     ensures { MatchOption result (Has memory.now address → ⊥) (λ left. (0 < left)
         × ((at : ℕ) → address ≤ at → at < address + left → Has memory.now at)) }
@@ -19,7 +19,7 @@ fn left_at(memory: &[Extent], address: u128) -> Option<u64>
     None
 }
 
-/// Of so many bytes from a base on a board with this memory has so many from the first on, without a gap: all, or whole pages.
+/// Returns how many of the `size` bytes from `base` on the memory contains without a gap: all of them, or whole pages.
 pub fn memory_there(memory: &[Extent], base: u64, size: u64) -> u64
     ensures { AreThere memory.now base size result }
 {
@@ -33,7 +33,7 @@ pub fn memory_there(memory: &[Extent], base: u64, size: u64) -> u64
     there
 }
 
-/// Whether one of these harts has that number.
+/// Returns whether one of these harts has that number.
 fn is_hart(harts: &[Extent], hart: u64) -> bool
     ensures { IsTrue result ↔ IsHart harts.now hart }
 {
@@ -45,7 +45,7 @@ fn is_hart(harts: &[Extent], hart: u64) -> bool
     false
 }
 
-/// Of so many harts a board with these has so many from hart 0 on, of which it has at least the one that boots.
+/// Returns how many of `most` harts a board has from hart 0 on without a gap. It has at least hart 0, which boots.
 pub fn harts_there(harts: &[Extent], most: u64) -> u64
     ensures { HartsThere harts.now most result }
 {

@@ -1,4 +1,4 @@
-//! Nodes as the host has them, one after another.
+//! Writes sibling nodes as the host gets them.
 
 ghost use Rattle.std.specs.Prelude.{◌≡◌, ◌≤◌, ◌++◌, IfErr, IfOk, List, [], length};
 ghost use Rattle.device_tree.specs.Pieces.{Part, parts_of};
@@ -17,7 +17,7 @@ use crate::writer::TreeWriter;
 use device_tree::{Cells, Place, PlacedPiece, Way, after_end, head_of, inner_of};
 use std::alloc::Global;
 
-/// Writes the nodes in front as the host has them, and answers the pieces behind them.
+/// Writes the nodes at the beginning as the host gets them, and returns the pieces after them.
 pub(crate) fn put_nodes<'a>(
     alloc: Global,
     share: &Share<'_>,

@@ -16,8 +16,8 @@ use crate::writer::TreeWriter;
 use device_tree::Reservation;
 use std::alloc::Global;
 
-/// What a tree has beside its nodes: reservations, the number of the hart that boots, and how many bytes are free after its names,
-/// where who gets the tree may add to it.
+/// The parts of a tree other than its nodes: reservations, the number of the boot hart, and the number of free bytes
+/// after the strings block, into which the recipient may extend the tree.
 #[derive(Clone, Copy)]
 pub struct Ends<'a> {
     pub reservations: &'a [Reservation],
@@ -25,7 +25,7 @@ pub struct Ends<'a> {
     pub free: u32,
 }
 
-/// How many bytes so many reservations have, with the pair that ends them.
+/// The size of `count` reservations and their terminating pair.
 fn reserved_size(count: usize) -> Result<usize, WriteFault>
     ensures size { IfOk result (λ size. size ≡ 16 * (count + 1)) }
     ensures few { OnOk result (count < 2 ^ 32) }
@@ -38,7 +38,7 @@ fn reserved_size(count: usize) -> Result<usize, WriteFault>
     Ok(16 * (count + 1))
 }
 
-/// The header of a tree with blocks of these sizes.
+/// Returns the header of a tree with blocks of these sizes.
 fn header_of(
     reservations: usize,
     block: usize,
@@ -72,7 +72,7 @@ fn header_of(
 }
 
 impl TreeWriter {
-    /// The bytes of the tree that was written, in version 17 of the format.
+    /// Returns the bytes of the tree that was written, in version 17 of the format.
     pub fn finish(&self, alloc: Global, ends: &Ends<'_>) -> Result<Vec<u8>, WriteFault>
         ensures spelt { IfOk result (λ bytes. (tree : Tree)
             → HasWritten self.now (parts_of_tree tree)

@@ -1,14 +1,14 @@
-//! Why a tree is not written.
+//! Reasons why a tree cannot be written.
 
-/// Why a tree is not written.
+/// The reason why a tree cannot be written.
 #[derive(Clone, Copy, Debug, PartialEq, Eq)]
 pub enum WriteFault {
-    /// A name has a zero byte, which would end it.
+    /// A name contains a zero byte, which would end it.
     ZeroInName,
-    /// A reservation of address 0 and size 0 would end the reservations.
+    /// A reservation of address 0 and size 0 would terminate the list.
     EmptyReservation,
-    /// A number does not fit into its 32 bits: the tree would have 4 GiB.
+    /// A number does not fit into its 32 bits because the tree would reach 4 GiB.
     TooLarge,
-    /// Memory was refused.
+    /// An allocation failed.
     Memory,
 }

@@ -1,4 +1,4 @@
-//! A tree that is being written.
+//! Writes a flattened device tree token by token.
 
 ghost use Rattle.std.specs.Prelude.{◌≡◌, ◌∷◌, IfErr, OnOk, []};
 ghost use Rattle.device_tree.specs.Pieces.{begins, ends, has};
@@ -11,9 +11,9 @@ use crate::names::place_of;
 use crate::write_fault::WriteFault;
 use std::alloc::Global;
 
-/// A tree that is being written: the names of its properties, each once, and its structure block so far.
+/// A tree being written: the names of its properties, each once, and the structure block so far.
 ///
-/// After an `Err` it is not to be written on.
+/// Do not use it after an `Err`.
 #[derive(Drop)]
 pub struct TreeWriter {
     pub(crate) names: Vec<u8>,
@@ -21,7 +21,7 @@ pub struct TreeWriter {
 }
 
 impl TreeWriter {
-    /// Nothing is written.
+    /// Returns a writer that has written nothing.
     pub fn new(alloc: Global) -> TreeWriter
         ensures { HasWritten result [] }
     {
@@ -31,7 +31,7 @@ impl TreeWriter {
         }
     }
 
-    /// A node begins, of this name and unit address.
+    /// Begins a node with this name and unit address.
     pub fn begin_node(&mut self, name: &[u8]) -> Result<(), WriteFault>
         ensures put { OnOk result (Adds self.old self.new (begins name.now ∷ [])) }
         ensures refused { IfErr result (IsBeginFault name.now) }
@@ -43,7 +43,7 @@ impl TreeWriter {
         Ok(())
     }
 
-    /// The node that began last has a property.
+    /// Adds a property to the node begun last.
     pub fn property(&mut self, name: &[u8], value: &[u8]) -> Result<(), WriteFault>
         ensures put { OnOk result
             (Adds self.old self.new (has (setting name.now value.now) ∷ [])) }
@@ -57,7 +57,7 @@ impl TreeWriter {
         Ok(())
     }
 
-    /// The node that began last and has not ended ends.
+    /// Ends the innermost open node.
     pub fn end_node(&mut self) -> Result<(), WriteFault>
         ensures put { OnOk result (Adds self.old self.new (ends ∷ [])) }
         ensures refused { IfErr result (λ fault. fault ≡ WriteFault.Memory) }

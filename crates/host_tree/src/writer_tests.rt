@@ -1,11 +1,12 @@
-//! A small tree, written as `dtc` writes it.
+//! Compares a small tree with `dtc`'s.
 
 use crate::{Ends, TreeWriter, WriteFault};
 use device_tree::Reservation;
 use std::alloc::Global;
 use std::process::Abort;
 
-/// `dtc -b 3` made it of `/memreserve/ 0x1000 0x2000; / { #size-cells = <2>; memory@0 { reg = [31 32 33 34 35]; #size-cells; }; };`.
+/// Made by `dtc -b 3` from `/memreserve/ 0x1000 0x2000; / { #size-cells = <2>; memory@0 { reg = [31 32 33 34 35];
+/// #size-cells; }; };`.
 #[rattlefmt::skip]
 const WRITTEN: [u8; 172] = [
     0xd0, 0x0d, 0xfe, 0xed, 0, 0, 0, 0xac, 0, 0, 0, 0x48, 0, 0, 0, 0x9c, 0, 0, 0, 0x28, 0, 0, 0,
@@ -39,7 +40,7 @@ fn written(alloc: Global, free: u32) -> Result<Vec<u8>, WriteFault> {
     writer.finish(alloc, &ends)
 }
 
-/// The size stands in the second word, so the words after it are compared.
+/// Compares from the third word on, because the second is the size.
 fn expect_written(rt: &impl Abort, alloc: Global, free: u32) {
     let tree = written(alloc, free).expect(rt, "a tree");
     assert!(rt; tree.len() == WRITTEN.len() + free as usize);

@@ -33,13 +33,13 @@ key_name keys.Base = codes "base"
 key_name keys.Size = codes "size"
 key_name keys.Perm = codes "perm"
 
--- each check is given by the breaches that it finds. The first check that finds any finds this
+-- each check is given by the breaches that it finds; this is the first breach that the checks find
 abbrev pub IsFirst : List (Breach → Type 0) → Breach → Type 0
 IsFirst [] breach = ⊥
 IsFirst (finds ∷ checks) breach = finds breach
     ⊎ (((other : Breach) → finds other → ⊥) × IsFirst checks breach)
 
--- a fault says what these checks find first, or that memory was refused
+-- a fault is the first breach that these checks find, or a failed allocation
 abbrev pub IsFaultOf : List (Breach → Type 0) → DocumentFault → Type 0
 IsFaultOf checks (faults.Breach breach) = IsFirst checks breach
 IsFaultOf checks faults.Memory = ⊤
@@ -78,54 +78,54 @@ bounds_checks place fields = Lacks place keys.Base fields ∷ HasNoNumber place 
     ∷ Lacks place keys.Size fields ∷ HasNoNumber place keys.Size fields
     ∷ HasNoPages place fields ∷ []
 
--- those of the table of the monitor, or of a range of memory
+-- the checks of the table of the monitor, or of a range of memory
 abbrev pub range_checks : TomlPath → Members → List (Breach → Type 0)
 range_checks place fields = HasUnknown (codes "base" ∷ codes "size" ∷ []) place fields
     ∷ bounds_checks place fields
 
--- those of the table of a device
+-- the checks of the table of a device
 abbrev pub device_checks : TomlPath → Members → List (Breach → Type 0)
 device_checks place fields =
     HasUnknown (codes "base" ∷ codes "size" ∷ codes "perm" ∷ []) place fields
     ∷ bounds_checks place fields
     ++ Lacks place keys.Perm fields ∷ HasNoPerm place fields ∷ []
 
--- those of a value that should be a table
+-- the checks of a value that should be a table
 abbrev pub table_checks : (TomlPath → Members → List (Breach → Type 0)) → TomlPath → Option Members
     → List (Breach → Type 0)
 table_checks checks place None = (λ breach. breach ≡ NoTable place) ∷ []
 table_checks checks place (Some fields) = checks place fields
 
--- those of the items of an array from this number on, each of which should be a table
+-- the checks of the items of an array from this number on, each of which should be a table
 abbrev pub item_checks : (TomlPath → Members → List (Breach → Type 0)) → (ℕ → TomlPath) → ℕ → Items
     → List (Breach → Type 0)
 item_checks checks place n no_items = []
 item_checks checks place n (item value items) = table_checks checks (place n) (as_table value)
     ++ item_checks checks place (n + 1) items
 
--- those of a value that should be an array of tables
+-- the checks of a value that should be an array of tables
 abbrev pub array_checks : (TomlPath → Members → List (Breach → Type 0)) → (ℕ → TomlPath) → Key
     → Option Items → List (Breach → Type 0)
 array_checks checks place key None = (λ breach. breach ≡ NoTables key) ∷ []
 array_checks checks place key (Some items) = item_checks checks place 1 items
 
--- those of the monitor
+-- the checks of the monitor
 abbrev pub monitor_checks : Option Data → List (Breach → Type 0)
 monitor_checks None = (λ breach. breach ≡ Missing File keys.Monitor) ∷ []
 monitor_checks (Some value) = table_checks range_checks Monitor (as_table value)
 
--- those of memory
+-- the checks of memory
 abbrev pub ram_checks : Option Data → List (Breach → Type 0)
 ram_checks None = (λ breach. breach ≡ Missing File keys.Ram) ∷ []
 ram_checks (Some value) = array_checks range_checks Ram keys.Ram (as_array value)
 
--- those of the devices, which may be missing
+-- the checks of the devices, which may be missing
 abbrev pub device_list_checks : Option Data → List (Breach → Type 0)
 device_list_checks None = []
 device_list_checks (Some value) = array_checks device_checks Device keys.Device (as_array value)
 
--- those of the form of a document: its keys, the monitor, memory, the devices, and the numbers of
--- harts and of entries
+-- the checks of the form of a document: its keys, the monitor, memory, the devices, and the numbers
+-- of harts and of entries
 abbrev pub form_checks : Members → List (Breach → Type 0)
 form_checks document =
     HasUnknown known File document
@@ -135,7 +135,7 @@ form_checks document =
     ++ (HasNoNumber File keys.Harts document ∷ HasNoNumber File keys.Entries document ∷ []))))
 
 -- the first rule on platforms that ranges and numbers break: the rules on ranges come first, then
--- how many harts and entries there are
+-- those on the numbers of harts and entries
 abbrev pub BreaksRule : (ℕ × ℕ) → List (ℕ × ℕ) → List (ℕ × ℕ × Perm) → ℕ → ℕ → PlatformFault
     → Type 0
 BreaksRule monitor ram devices harts entries fault =
@@ -143,7 +143,8 @@ BreaksRule monitor ram devices harts entries fault =
     ++ ((BadHarts, (0 < harts) × (harts ≤ 4))
     ∷ ((BadEntries, (entries ≡ 16) ⊎ (entries ≡ 64)) ∷ []))) fault
 
--- a broken rule as what a document breaks: of two ranges that have a page in common, both
+-- a broken rule as a breach of a document. An overlap includes the two ranges that have a page in
+-- common
 abbrev pub IsBroken : PlatformFault → List (ℕ × ℕ) → List (ℕ × ℕ × Perm) → Breach → Type 0
 IsBroken fault ram devices (Rule told) = (told ≡ fault) × (fault ≢ rules.Overlap)
 IsBroken fault ram devices (Overlap one other) = (fault ≡ rules.Overlap)
@@ -157,6 +158,6 @@ HasBrokenRule document breach =
     × (entries : ℕ) × (fault : PlatformFault) × HasForm document monitor ram devices harts entries
     × BreaksRule monitor ram devices harts entries fault × IsBroken fault ram devices breach
 
--- all of them: the form, and last the rules
+-- the checks of a document: those of its form, then the rules
 abbrev pub document_checks : Members → List (Breach → Type 0)
 document_checks document = form_checks document ++ HasBrokenRule document ∷ []

@@ -1,4 +1,4 @@
--- What a platform file says: the numbers of its document, and the platform that they are.
+-- The contents of a platform file: the numbers of its document, and their platform.
 use Rattle.std.specs.Prelude.{◌≡◌, ℕ, ◌<◌, ◌≤◌, ℤ, pos, negsuc, Bool, true, false, ◌&&◌, ◌||◌}
 use Rattle.std.specs.Prelude.{bytes_eq, if◌then◌else◌, List, [], ◌∷◌, Option, Some, None}
 use Rattle.std.specs.Prelude.{option_map, option_and_then, codes}
@@ -12,12 +12,12 @@ use Rattle.pmp_encoding.specs.Perms.{permission_of}
 use Rattle.platforms.specs.Platform.{PlatformLayout, platform_rules}
 use Rattle.platforms.specs.CheckLists.{AllPass}
 
--- no key of a table has another name than these
+-- the key is one of the names
 abbrev pub is_known : List ℕ → List (List ℕ) → Bool
 is_known key [] = false
 is_known key (name ∷ names) = bytes_eq key name || is_known key names
 
--- a table has no other keys than these
+-- all keys of a table are among these names
 abbrev pub has_only : List (List ℕ) → Members → Bool
 has_only names no_members = true
 has_only names (member key value rest) = is_known key names && has_only names rest
@@ -27,7 +27,7 @@ abbrev pub natural : ℤ → Option ℕ
 natural (pos n) = Some n
 natural (negsuc n) = None
 
--- the whole number from 0 that a value is
+-- a value as a whole number from 0
 abbrev pub number : Data → Option ℕ
 number value = option_and_then natural (as_integer value)
 
@@ -40,7 +40,7 @@ abbrev pub range_in : Members → Option (ℕ × ℕ)
 range_in table = option_and_then (λ base. option_map (λ size. (base, size))
     (number_at (codes "size") table)) (number_at (codes "base") table)
 
--- a table of a base and a size alone
+-- a table with a base and a size only
 abbrev pub range_of : Members → Option (ℕ × ℕ)
 range_of table = if has_only (codes "base" ∷ codes "size" ∷ []) table then range_in table else None
 
@@ -52,7 +52,7 @@ perm_of value = option_and_then permission_of (as_str value)
 abbrev pub perm_at : Members → Option Perm
 perm_at table = option_and_then perm_of (get_member (codes "perm") table)
 
--- a table of a base, a size and a permission alone
+-- the base, the size and the permission of a table
 abbrev pub device_in : Members → Option (ℕ × ℕ × Perm)
 device_in table = option_and_then
     (λ range. option_map (λ perm. (range.0, range.1, perm)) (perm_at table)) (range_in table)
@@ -62,7 +62,7 @@ abbrev pub device_of : Members → Option (ℕ × ℕ × Perm)
 device_of table = if has_only (codes "base" ∷ codes "size" ∷ codes "perm" ∷ []) table
     then device_in table else None
 
--- each item of an array is a table, of which `f` makes something
+-- each item of an array is a table that `f` can convert
 abbrev pub each : {X : Type 0} → (Members → Option X) → Items → Option (List X)
 each f no_items = Some []
 each f (item value rest) = option_and_then (λ x. option_map (λ xs. x ∷ xs) (each f rest))
@@ -72,30 +72,30 @@ each f (item value rest) = option_and_then (λ x. option_map (λ xs. x ∷ xs) (
 abbrev pub all_of : {X : Type 0} → (Members → Option X) → Data → Option (List X)
 all_of f value = option_and_then (each f) (as_array value)
 
--- where the monitor is
+-- the range of the monitor
 abbrev pub monitor_at : Members → Option (ℕ × ℕ)
 monitor_at document = option_and_then range_of
     (option_and_then as_table (get_member (codes "monitor") document))
 
--- where memory is
+-- the ranges of memory
 abbrev pub ram_at : Members → Option (List (ℕ × ℕ))
 ram_at document = option_and_then (all_of range_of) (get_member (codes "ram") document)
 
--- no devices where none are named
+-- the devices in a value, or none if it is missing
 abbrev pub devices_told : Option Data → Option (List (ℕ × ℕ × Perm))
 devices_told None = Some []
 devices_told (Some value) = all_of device_of value
 
--- where devices are, and what may be done with them
+-- the devices with their permissions
 abbrev pub devices_at : Members → Option (List (ℕ × ℕ × Perm))
 devices_at document = devices_told (get_member (codes "device") document)
 
--- a number that may be left out
+-- a number that may be omitted
 abbrev pub number_told : ℕ → Option Data → Option ℕ
 number_told usual None = Some usual
 number_told usual (Some value) = number value
 
--- the number at a key, or the usual one
+-- the number at a key, or the default
 abbrev pub number_or : ℕ → List ℕ → Members → Option ℕ
 number_or usual key document = number_told usual (get_member key document)
 
@@ -103,9 +103,8 @@ number_or usual key document = number_told usual (get_member key document)
 abbrev pub known : List (List ℕ)
 known = codes "monitor" ∷ codes "ram" ∷ codes "device" ∷ codes "harts" ∷ codes "entries" ∷ []
 
--- each part of a document has its form, and no key has another name: one hart where no `harts` is
--- given, and sixteen entries where no `entries` is. What is left are the rules on these ranges and
--- numbers
+-- each part of a document has its form, and there are no unknown keys: `harts` is one by default,
+-- and `entries` sixteen. The rules on these ranges and numbers are not checked here
 pub record HasForm (document : Members) (monitor : ℕ × ℕ) (ram : List (ℕ × ℕ))
     (devices : List (ℕ × ℕ × Perm)) (harts entries : ℕ) : Type 0 where
   pub keys : has_only known document ≡ true
@@ -130,8 +129,7 @@ pub record Builds (monitor : ℕ × ℕ) (ram : List (ℕ × ℕ)) (devices : Li
     limit = platform.limit;
   }
 
--- a document is the platform: each part has its form, and the platform is that of its ranges and
--- numbers
+-- a document is the platform: each part has its form, and the platform has its ranges and numbers
 pub record IsPlatformDocument (document : Members) (platform : PlatformLayout) : Type 0 where
   pub monitor : ℕ × ℕ
   pub ram : List (ℕ × ℕ)
@@ -141,13 +139,13 @@ pub record IsPlatformDocument (document : Members) (platform : PlatformLayout) :
   pub form : HasForm document monitor ram devices harts entries
   pub built : Builds monitor ram devices harts entries platform
 
--- a text is the platform: it is a TOML document that is
+-- a text is the platform: it is a TOML document of the platform
 pub record IsPlatformText (text : List ℕ) (platform : PlatformLayout) : Type 0 where
   pub document : Members
   pub parsed : parse_document text ≡ Some document
   pub is_platform : IsPlatformDocument document platform
 
--- the bytes of a file are the platform: they are a text of UTF-8 that is
+-- the bytes of a file are the platform: they are UTF-8 text of the platform
 pub record IsPlatformFile (bytes : List ℕ) (platform : PlatformLayout) : Type 0 where
   pub text : IsUtf8 bytes
   pub platform_text : IsPlatformText bytes platform

@@ -1,4 +1,4 @@
--- Where the text of a platform file has the key or the table that a breach is about.
+-- Location of the key or the table of a breach in the text of a platform file.
 use Rattle.std.specs.Prelude.{◌≡◌, ◌≢◌, ◌⊎◌, ◌+◌, ◌≤◌, ◌==◌, ◌||◌, ℕ, Bool, true}
 use Rattle.std.specs.Prelude.{false, List, [], ◌∷◌, Option, Some, None, codes, drop, length, take}
 use Rattle.std.specs.Prelude.{option_map}
@@ -18,21 +18,21 @@ use Rattle.input_files.specs.declared.key_places.Sought.{Sought}
 use Rattle.input_files.specs.declared.key_places.Sought.TheVariants.{Header, KeyOf}
 use Rattle.input_files.specs.declared.key_places.Tables.{Tables}
 
--- the name of a table, where it has one
+-- the name of a table, if it has one
 abbrev pub table_word : TomlPath → Option (List ℕ)
 table_word File = None
 table_word Monitor = Some (codes "monitor")
 table_word (Ram n) = Some (codes "ram")
 table_word (Device n) = Some (codes "device")
 
--- the key that a broken rule is about, where it is about one
+-- the key that a broken rule concerns, if there is one
 abbrev pub rule_word : PlatformFault → Option (List ℕ)
 rule_word MonitorNotRam = Some (codes "monitor")
 rule_word BadHarts = Some (codes "harts")
 rule_word BadEntries = Some (codes "entries")
 rule_word _ = None
 
--- the key or the name of the table that a breach is about
+-- the key or the name of the table that a breach concerns
 abbrev pub word_about : Breach → Option (List ℕ)
 word_about (breaches.Unknown table key) = Some key.now
 word_about (breaches.Missing table key) = table_word table
@@ -49,7 +49,7 @@ abbrev pub HasWordAt : List ℕ → ℕ → List ℕ → Type 0
 HasWordAt text at word = (at + length word ≤ length text)
     × (take (length word) (drop at text) ≡ word)
 
--- what is searched for of a breach: a key of the table that it is in, or the header of that table
+-- the object that a breach concerns: a key of its table, or the header of that table
 abbrev pub sought_by : Breach → Sought
 sought_by (breaches.Unknown table key) = KeyOf table
 sought_by (breaches.Missing table key) = Header table
@@ -61,11 +61,11 @@ sought_by (breaches.NoTables key) = KeyOf File
 sought_by (breaches.Overlap one other) = Header one.place
 sought_by (breaches.Rule fault) = KeyOf File
 
--- a byte that may be in a bare key of TOML: a letter, a digit, `_` or `-`
+-- a byte that can be part of a bare key of TOML: a letter, a digit, `_` or `-`
 abbrev pub is_bare : ℕ → Bool
 is_bare byte = is_ascii_alphanumeric byte || (byte == 95 || byte == 45)
 
--- how many blanks and brackets a line begins with
+-- the number of blanks and brackets at the front of a line
 abbrev pub front_len : List ℕ → ℕ
 front_len line = prefix_len (λ byte. is_blank byte || byte == 91) line
 
@@ -81,7 +81,7 @@ name_of line = let rest = drop (front_len line) line in take (prefix_len is_bare
 abbrev pub opening_tables : Tables
 opening_tables = record { current = Some File; ram = 0; devices = 0 }
 
--- the tables of a text from the header of that name on
+-- the state of the tables after the header with this name
 abbrev pub Begins : List ℕ → Tables → Tables → Type 0
 Begins name old new =
     ((name ≡ codes "monitor") × (new ≡ record old { current = Some Monitor }))
@@ -96,29 +96,28 @@ Begins name old new =
     ⊎ ((name ≢ codes "monitor") × (name ≢ codes "ram") × (name ≢ codes "device")
     × (new ≡ record old { current = None }))))
 
--- the tables of a text from a line on, where that is a header, and where it is none
+-- the state of the tables after a line, given whether it is a header
 abbrev pub FollowsBy : Bool → List ℕ → Tables → Tables → Type 0
 FollowsBy true line old new = Begins (name_of line) old new
 FollowsBy false line old new = new ≡ old
 
--- the tables of a text from a line on
+-- the state of the tables after a line
 abbrev pub Follows : List ℕ → Tables → Tables → Type 0
 Follows line old new = FollowsBy (is_header line) line old new
 
--- what is searched for may be in a line with its name, by whether that is a header: it is the
--- header of that table, or a key of it. A table may be a key of the file, and a key of the file a
--- table
+-- a line with the right name matches, given whether it is a header: it is the header of the table,
+-- or a key of it. A table may be a key of the file, and a key of the file may be a table
 abbrev pub IsThere : Sought → Tables → Bool → Type 0
 IsThere (Header table) tables true = tables.current ≡ Some table
 IsThere (Header table) tables false = tables.current ≡ Some File
 IsThere (KeyOf table) tables true = table ≡ File
 IsThere (KeyOf table) tables false = tables.current ≡ Some table
 
--- a line is what is searched for
+-- a line matches
 abbrev pub IsSought : Sought → List ℕ → Tables → List ℕ → Type 0
 IsSought sought word tables line = (name_of line ≡ word) × IsThere sought tables (is_header line)
 
--- the first of some lines that is what is searched for has its name after that many bytes
+-- the first of some lines that matches has its name at this index
 abbrev pub Finds : Sought → List ℕ → Tables → List (List ℕ) → Option ℕ → Type 0
 Finds sought word old [] found = found ≡ None
 Finds sought word old (line ∷ lines) found =
@@ -128,13 +127,13 @@ Finds sought word old (line ∷ lines) found =
     × Finds sought word new lines later
     × (found ≡ option_map (λ at. length line + 1 + at) later)))
 
--- a place that was found is one where the text has the word
+-- a place is kept if the text contains the word there
 abbrev pub IsKept : List ℕ → List ℕ → Option ℕ → Option ℕ → Type 0
 IsKept text word None place = place ≡ None
 IsKept text word (Some at) place = ((place ≡ Some at) × HasWordAt text at word)
     ⊎ ((place ≡ None) × (HasWordAt text at word → ⊥))
 
--- where a text has what is searched for, which that word names, if there is one
+-- the index in a text of the object with this name, if there is one
 abbrev pub IsPlaceOf : List ℕ → Sought → Option (List ℕ) → Option ℕ → Type 0
 IsPlaceOf text sought None place = place ≡ None
 IsPlaceOf text sought (Some word) place = (found : Option ℕ)

@@ -8,19 +8,18 @@ use Rattle.input_files.specs.declared.breach.PlacedRange.{PlacedRange}
 use Rattle.input_files.specs.declared.breach.TomlPath.{TomlPath}
 use Rattle.input_files.specs.declared.breach.TomlPath.TheVariants.{Ram, Device}
 
--- ranges with their places, the first of which has this number
+-- ranges with their places, if the first has number n
 abbrev pub placed_from : (ℕ → TomlPath) → ℕ → List (ℕ × ℕ) → List PlacedRange
 placed_from place n [] = []
 placed_from place n (range ∷ ranges) = record { place = place n; bounds = range }
     ∷ placed_from place (n + 1) ranges
 
--- the ranges of memory and those of devices, each with its place, counted from 1
+-- the ranges of memory and of devices, each with its place, counted from 1
 abbrev pub placed_ranges : List (ℕ × ℕ) → List (ℕ × ℕ × Perm) → List PlacedRange
 placed_ranges ram devices = placed_from Ram 1 ram ++ placed_from Device 1 (map device_range devices)
 
--- of these ranges one has a page in common with another, which comes before it. They are the first
--- such two: each range before the other is apart from all after it, and the other from
--- those between
+-- the first two of these ranges that have a page in common, where `other` precedes `one`: each
+-- range before `other` is apart from all later ones, and `other` is apart from those between
 pub record IsOverlap (ranges : List PlacedRange) (one other : PlacedRange) : Type 0 where
   pub before : ℕ
   pub behind : ℕ

@@ -1,4 +1,4 @@
--- The settings of a map's lines, and the maps to which they lead.
+-- The settings of a map's lines, and the resulting maps.
 use Rattle.std.specs.Prelude.{◌≡◌, ◌⊎◌, ◌≢◌, ℕ, ◌+◌, ◌^◌, ◌<◌, ◌≤◌, Bool, true, false, List, []}
 use Rattle.std.specs.Prelude.{◌∷◌, ◌++◌, length, Option, Some}
 use Rattle.pmp_encoding.specs.declared.perm.Perm.TheVariants.{NoAccess}
@@ -12,23 +12,23 @@ use Rattle.input_files.specs.declared.idle_lines.IdleLine.{IdleLine}
 use Rattle.input_files.specs.declared.idle_lines.MapRemark.{MapRemark}
 use Rattle.input_files.specs.declared.idle_lines.MapRemark.TheVariants.{Nothing, TooManyAfter, Idle}
 
--- what line n sets, where it sets something
+-- the setting of line n, if it sets something
 abbrev pub settings_by : ℕ → Option (Option Run) → List Numbered
 settings_by n (Some (Some setting)) = record { line = n; setting = setting } ∷ []
 settings_by n _ = []
 
--- what lines set, the first of which has number n
+-- the settings of lines, if the first has number n
 abbrev pub settings_from : ℕ → List (List ℕ) → List Numbered
 settings_from n [] = []
 settings_from n (raw ∷ lines) = settings_by n (raw_says raw) ++ settings_from (n + 1) lines
 
--- settings lead from a map to a map, one after another
+-- settings, applied one after another, change a map into another
 abbrev pub SetTo : List Run → List Numbered → List Run → Type 0
 SetTo before [] after = after ≡ before
 SetTo before (numbered ∷ settings) after = (middle : List Run) × Sets before numbered.setting middle
     × SetTo middle settings after
 
--- after line n, the first of them, there would be too many ranges
+-- line n is the first after which there would be too many ranges
 abbrev pub IsTooManyAfter : ℕ → List Run → List Numbered → Type 0
 IsTooManyAfter n before [] = ⊥
 IsTooManyAfter n before (numbered ∷ settings) =
@@ -36,7 +36,7 @@ IsTooManyAfter n before (numbered ∷ settings) =
     ⊎ ((middle : List Run) × Sets before numbered.setting middle
     × IsTooManyAfter n middle settings)
 
--- settings lead to another map than this one, or on their way there are too many ranges
+-- settings give a map other than `whole`, or too many ranges on the way
 abbrev pub LeadElsewhere : List Numbered → List Run → Type 0
 LeadElsewhere settings whole = ((other : List Run) × SetTo [] settings other × (other ≢ whole))
     ⊎ ((n : ℕ) × IsTooManyAfter n [] settings)
@@ -51,8 +51,8 @@ abbrev pub IsAllowedOn : List Run → Run → Type 0
 IsAllowedOn map setting = (page : ℕ) × (setting.first ≤ page) × (page < end_of setting)
     × (view_of_runs map page ≢ NoAccess)
 
--- whether a setting after others says what holds anyway: it denies its pages, to none of which
--- those others give a permission
+-- the bool is true iff a setting has no effect after others: it denies pages to which they give no
+-- permission
 pub data IsRedundantDenial (kept : List Numbered) (setting : Run) : Bool → Type 0 where
   denied : (before : List Run) → SetTo [] kept before → setting.perm ≡ NoAccess
       → IsDeniedOn before setting → IsRedundantDenial kept setting true
@@ -60,9 +60,9 @@ pub data IsRedundantDenial (kept : List Numbered) (setting : Run) : Bool → Typ
       → IsRedundantDenial kept setting false
   allows : setting.perm ≢ NoAccess → IsRedundantDenial kept setting false
 
--- which settings are named, from first to last, and which are left of all: `kept` are those left of
--- the ones before. A setting is named exactly where all that are still left lead to the whole map
--- without it; from then on it is left out
+-- the settings that are named, from first to last, and those that are left: `kept` are those left
+-- among the earlier ones. A setting is named iff the others that are still left give the whole map
+-- without it; it is then removed
 pub data AreNamed (whole : List Run) : List Numbered → List Numbered → List IdleLine → List Numbered
     → Type 0 where
   end : {kept : List Numbered} → AreNamed whole kept [] [] kept
@@ -77,17 +77,16 @@ pub data AreNamed (whole : List Run) : List Numbered → List Numbered → List 
       → LeadElsewhere (kept ++ rest) whole → AreNamed whole (kept ++ numbered ∷ []) rest named left
       → AreNamed whole kept (numbered ∷ rest) named left
 
--- these lines are named; without all of them together, the settings that are left lead to the same
--- map
+-- these lines are named; without all of them together, the settings that are left give the same map
 pub record AreIdle (settings : List Numbered) (whole : List Run)
     (idle : List IdleLine) : Type 0 where
   pub left : List Numbered
   pub are_named : AreNamed whole [] settings idle left
   pub same : SetTo [] left whole
 
--- what is to say of the settings of a file, by whether they make a map: the line after which there
--- would be too many ranges; otherwise, of a map where at most 512 lines set something, those that
--- can all be left out together
+-- the remark on the settings of a file, given whether they form a map: the line after which there
+-- would be too many ranges; otherwise, for a map in which at most 512 lines set something, the
+-- lines that can all be removed together
 pub data IsRemark (settings : List Numbered) : Bool → MapRemark → Type 0 where
   after : {is_map : Bool} (n : ℕ) → IsTooManyAfter n [] settings
       → IsRemark settings is_map (TooManyAfter n)
@@ -98,6 +97,6 @@ pub data IsRemark (settings : List Numbered) : Bool → MapRemark → Type 0 whe
       → length settings ≤ 512 → AreIdle settings map idle.items
       → IsRemark settings true (Idle idle)
 
--- the range of a setting lies in the space
+-- the range of a setting is inside the space
 abbrev pub IsInside : Numbered → Type 0
 IsInside numbered = numbered.setting.first + numbered.setting.count ≤ 2 ^ 44

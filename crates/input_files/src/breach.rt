@@ -1,4 +1,4 @@
-//! What a platform file breaks, and where.
+//! Breaches of the rules on platform files, with their places.
 
 ghost use Rattle.std.specs.Prelude.{◌≡◌};
 ghost use Rattle.input_files.specs.Breaches.{key_name};
@@ -14,20 +14,20 @@ pub enum Key {
     Ram,
     /// The devices.
     Device,
-    /// How many harts there are.
+    /// The number of harts.
     Harts,
-    /// How many PMP entries each hart has.
+    /// The number of PMP entries of each hart.
     Entries,
-    /// Where a range begins, in bytes.
+    /// The start of a range, in bytes.
     Base,
-    /// How long a range is, in bytes.
+    /// The size of a range, in bytes.
     Size,
-    /// What the host may do with a device.
+    /// The host's permission for a device.
     Perm,
 }
 
 impl Key {
-    /// The key as it is written.
+    /// Returns the key as it is written.
     pub fn name(self) -> &'static str
         ensures { result.now ≡ key_name self }
     {
@@ -47,13 +47,13 @@ impl Key {
 /// A table of a platform file.
 #[derive(Clone, Copy, PartialEq, Eq)]
 pub enum TomlPath {
-    /// The file's own.
+    /// The top level of the file.
     File,
-    /// That of the monitor's range.
+    /// The table of the monitor's range.
     Monitor,
-    /// That of a range of memory, counted from 1.
+    /// The table of a range of memory, counted from 1.
     Ram(u64),
-    /// That of a device, counted from 1.
+    /// The table of a device, counted from 1.
     Device(u64),
 }
 
@@ -64,24 +64,24 @@ pub struct PlacedRange {
     pub bounds: (u64, u64),
 }
 
-/// What a platform file breaks.
+/// A breach of the rules on platform files.
 #[derive(Clone, Copy)]
 pub enum Breach<'a> {
     /// The table may not have this key.
     Unknown(TomlPath, &'a str),
     /// The table needs this key.
     Missing(TomlPath, Key),
-    /// The value of the key is no whole number from 0.
+    /// The value of the key is not a whole number from 0.
     NoNumber(TomlPath, Key),
-    /// The range is not of whole pages, at least one, below 2^56.
+    /// The range does not consist of whole pages, at least one, below 2^56.
     NoPages(TomlPath),
-    /// The permission of a device is none of the six.
+    /// The permission of a device is not one of the six.
     NoPerm(TomlPath),
-    /// What is at this place is not a table.
+    /// The value at this place is not a table.
     NoTable(TomlPath),
-    /// The value of the key is no array of tables.
+    /// The value of the key is not an array of tables.
     NoTables(Key),
-    /// The first of these ranges has a page in common with the second, which comes before it.
+    /// The first of these ranges has a page in common with the second, which precedes it.
     Overlap(PlacedRange, PlacedRange),
     /// The ranges and numbers break this rule on platforms.
     Rule(PlatformFault),

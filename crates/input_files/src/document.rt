@@ -8,7 +8,7 @@ ghost use Rattle.input_files.specs.Document.{has_only, is_known, number, perm_of
 use pmp_encoding::Perm;
 use toml::{Table, Value};
 
-/// Whether one of the names is the key.
+/// Returns whether the key is one of the names.
 fn is_known(key: &str, names: &[&str]) -> bool
     ensures { result ≡ is_known key.now (map (λ name. name.now) names.now) }
 {
@@ -20,7 +20,7 @@ fn is_known(key: &str, names: &[&str]) -> bool
     false
 }
 
-/// The first key of a table that has another name than these.
+/// Returns the first key of a table that is not one of the names.
 pub(crate) fn unknown_key<'a>(table: &'a Table, names: &[&str]) -> Option<&'a str>
     ensures some { IfSome result (λ key.
         (get_member key.now (table_view table.now) ≢ None)
@@ -36,7 +36,7 @@ pub(crate) fn unknown_key<'a>(table: &'a Table, names: &[&str]) -> Option<&'a st
     None
 }
 
-/// The value at a key.
+/// Returns the value at a key.
 pub(crate) fn value_at<'a>(table: &'a Table, key: &str) -> Option<&'a Value>
     ensures { option_map (λ value. view value.now) result
         ≡ get_member key.now (table_view table.now) }
@@ -44,7 +44,7 @@ pub(crate) fn value_at<'a>(table: &'a Table, key: &str) -> Option<&'a Value>
     table.get(key)
 }
 
-/// A whole number from 0.
+/// Returns a value as a whole number from 0.
 pub(crate) fn number(value: &Value) -> Option<u64>
     ensures { result ≡ number (view value.now) }
 {
@@ -55,7 +55,7 @@ pub(crate) fn number(value: &Value) -> Option<u64>
     Some(n as u64)
 }
 
-/// The permission that a text names.
+/// Returns the permission that a text names.
 pub(crate) fn perm_of(value: &Value) -> Option<Perm>
     ensures { result ≡ perm_of (view value.now) }
 {

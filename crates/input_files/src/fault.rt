@@ -1,4 +1,4 @@
-//! Why a text is no platform.
+//! Reasons why a text is not a platform.
 
 ghost use Rattle.std.specs.Prelude.{◌≡◌};
 ghost use Rattle.input_files.specs.Faults.{text_fault_number};
@@ -7,19 +7,19 @@ use crate::breach::Breach;
 use std::alloc::{AllocError, AllocFailed};
 use thiserror::Error;
 
-/// Why a text is no platform.
+/// The reason why a text is not a platform.
 #[derive(Clone, Copy, Debug, PartialEq, Eq, Error)]
 pub enum TextFault {
-    /// It is not a TOML document, says too little or too much, or breaks a rule on platforms.
+    /// It is not a TOML document, lacks keys or has unknown ones, or breaks a rule on platforms.
     #[error("not a platform")]
     NotAPlatform = 1,
-    /// Memory was refused.
+    /// An allocation failed.
     #[error("out of memory")]
     Memory = 2,
 }
 
 impl TextFault {
-    /// The number of the fault: 1 or 2.
+    /// Returns the number of the fault: 1 or 2.
     pub fn number(self) -> u8
         ensures { result ≡ text_fault_number self }
     {
@@ -30,12 +30,12 @@ impl TextFault {
     }
 }
 
-/// The reason for which a document is not a platform.
+/// The reason why a document is not a platform.
 #[derive(Clone, Copy)]
 pub enum DocumentFault<'a> {
     /// The document's first breach.
     Breach(Breach<'a>),
-    /// Memory was refused.
+    /// An allocation failed.
     Memory,
 }
 

@@ -1,4 +1,4 @@
-//! Masters of memory that the devices of a platform hold.
+//! DMA-capable devices that a platform's devices contain.
 
 ghost use Rattle.std.specs.Prelude.{◌≡◌, ◌++◌, IfOk, OnOk};
 ghost use Rattle.input_files.specs.Masters.{held_by, held_masters, holds, is_open, masters};
@@ -7,16 +7,16 @@ use crate::masters::{Master, masters};
 use pmp_encoding::Perm;
 use std::alloc::{AllocError, Global};
 
-/// A master of memory that a device holds.
+/// A DMA-capable device that a platform's device contains.
 #[derive(Clone, Copy)]
 pub struct HeldMaster {
-    /// Which device, counted from 1.
+    /// The number of the platform's device, counted from 1.
     pub device: u64,
-    /// What it holds.
+    /// The DMA-capable device.
     pub master: Master,
 }
 
-/// Whether a permission allows anything.
+/// Returns whether a permission allows anything.
 fn is_open(perm: Perm) -> bool
     ensures { result ≡ is_open perm }
 {
@@ -27,14 +27,14 @@ fn is_open(perm: Perm) -> bool
 }
 
 /// Whether a device opens a byte of a master.
-fn holds(device: (u64, u64, Perm), master: Master) -> bool
+pub(crate) fn holds(device: (u64, u64, Perm), master: Master) -> bool
     ensures { result ≡ holds device master }
 {
     let (base, size, perm) = device;
     is_open(perm) && base <= master.last && (master.first < base || master.first - base < size)
 }
 
-/// Appends the masters that a device holds.
+/// Appends the DMA-capable devices that a platform's device contains.
 fn push_held(
     held: &mut Vec<HeldMaster>,
     number: u64,
@@ -54,7 +54,7 @@ fn push_held(
     Ok(())
 }
 
-/// The masters that the devices of a platform hold.
+/// Returns the DMA-capable devices that a platform's devices contain.
 pub(crate) fn held_masters(
     alloc: Global,
     devices: &[(u64, u64, Perm)],

@@ -1,4 +1,4 @@
-//! Lines without which the whole map is the same, all of them together, and the line after which there are too many ranges.
+//! Lines that can all be removed together without changing the map, and the line after which there are too many ranges.
 
 ghost use Rattle.std.specs.Prelude.{◌≡◌, ◌≢◌, ◌≤◌, ◌^◌, ◌++◌, ℕ, IfNone, IfOk, IfSome, List, Ok, OnOk, [], ◌∷◌, false, true};
 ghost use Rattle.std.specs.List.{All};
@@ -10,39 +10,39 @@ use permission_map::{MapBuilder, MapFault, Memory, PermissionMap, Run};
 use pmp_encoding::Perm;
 use std::alloc::{AllocError, Global};
 
-/// How many settings a file may have to be looked at for lines that can be left out.
+/// Maximum number of settings of a file for which removable lines are searched.
 const MOST: usize = 512;
 
-/// What a line sets.
+/// The setting of a line.
 #[derive(Clone, Copy)]
 pub struct Numbered {
-    /// Its number, from 1.
+    /// The number of the line, from 1.
     pub line: u64,
     /// The permission on its pages.
     pub setting: Run,
 }
 
-/// A line without which the map is the same.
+/// A line that can be removed without changing the map.
 #[derive(Clone, Copy)]
 pub struct IdleLine {
-    /// Its number, from 1.
+    /// The number of the line, from 1.
     pub line: u64,
-    /// Whether it says what holds anyway: it denies pages that have no permission without it.
+    /// True if the line has no effect even where it is: it denies pages that have no permission anyway.
     pub redundant: bool,
 }
 
-/// What is to say of all lines of a map file together.
+/// A remark on all lines of a map file together.
 #[derive(Drop)]
 pub enum MapRemark {
-    /// Nothing: they make no map, or too many set something.
+    /// None: the lines do not form a map, or too many of them set something.
     Nothing,
     /// After this line there are too many ranges.
     TooManyAfter(u64),
-    /// Without these lines together the map is the same.
+    /// These lines can be removed together without changing the map.
     Idle(Vec<IdleLine>),
 }
 
-/// Follows settings one after another. The answer is the line after which there are too many ranges, where there is one.
+/// Applies settings one after another. Returns the line after which there are too many ranges, if there is one.
 fn follow(map: &mut MapBuilder, settings: &[Numbered]) -> Result<Option<u64>, Memory>
     requires { All IsInside settings.now }
     ensures all { IfOk result (λ stopped. IfNone stopped (SetTo map.old settings.now map.new)) }
@@ -61,7 +61,7 @@ fn follow(map: &mut MapBuilder, settings: &[Numbered]) -> Result<Option<u64>, Me
     Ok(None)
 }
 
-/// The map of settings and of those after them, where there are never too many ranges.
+/// Returns the map of some settings followed by others, unless there are too many ranges.
 pub fn map_of_both(
     alloc: Global,
     kept: &[Numbered],
@@ -84,7 +84,7 @@ pub fn map_of_both(
     Ok(Some(map))
 }
 
-/// Whether two maps are the same.
+/// Returns whether two maps are equal.
 fn is_same(one: &PermissionMap, other: &PermissionMap) -> bool
     ensures same { result ≡ true → one.now ≡ other.now }
     ensures different { result ≡ false → one.now ≢ other.now }
@@ -92,7 +92,7 @@ fn is_same(one: &PermissionMap, other: &PermissionMap) -> bool
     one.ranges() == other.ranges()
 }
 
-/// Whether a setting takes each permission away.
+/// Returns whether a setting removes all permissions.
 fn denies(setting: &Run) -> bool
     ensures yes { result ≡ true → setting.now.perm ≡ NoAccess }
     ensures no { result ≡ false → setting.now.perm ≢ NoAccess }
@@ -100,7 +100,7 @@ fn denies(setting: &Run) -> bool
     setting.perm == Perm::NoAccess
 }
 
-/// Whether no page of a setting has a permission.
+/// Returns whether no page of a setting has a permission.
 fn is_denied(map: &PermissionMap, setting: &Run) -> bool
     requires { end_of setting.now ≤ 2 ^ 44 }
     ensures yes { result ≡ true → IsDeniedOn map.now setting.now }
@@ -112,7 +112,7 @@ fn is_denied(map: &PermissionMap, setting: &Run) -> bool
     run.first.max(setting.first) >= setting.first + setting.count
 }
 
-/// The map of settings that lead to one.
+/// Returns the map of settings that form one.
 fn map_of_kept(alloc: Global, kept: &[Numbered]) -> Result<PermissionMap, Memory>
     requires inside { All IsInside kept.now }
     requires made { (map : List Run) × SetTo [] kept.now map }
@@ -126,7 +126,7 @@ fn map_of_kept(alloc: Global, kept: &[Numbered]) -> Result<PermissionMap, Memory
     Ok(map)
 }
 
-/// Whether a setting after others says what holds anyway.
+/// Returns whether a setting has no effect after others, because it denies pages that have no permission.
 fn is_redundant_denial(alloc: Global, kept: &[Numbered], setting: &Run) -> Result<bool, Memory>
     requires setting { end_of setting.now ≤ 2 ^ 44 }
     requires inside { All IsInside kept.now }
@@ -140,7 +140,7 @@ fn is_redundant_denial(alloc: Global, kept: &[Numbered], setting: &Run) -> Resul
     Ok(is_denied(&map, setting))
 }
 
-/// Whether settings and those after them lead to the whole map.
+/// Returns whether some settings followed by others give the whole map.
 fn is_whole(
     alloc: Global,
     kept: &[Numbered],
@@ -167,7 +167,7 @@ fn name_line(idle: &mut Vec<IdleLine>, line: u64, redundant: bool) -> Result<(),
     Ok(())
 }
 
-/// The settings without which those that are left lead to the whole map. Each is left out from then on.
+/// Returns the settings that can be removed without changing the whole map. Each is removed for the rest of the search.
 fn idle_lines(
     alloc: Global,
     settings: &[Numbered],
@@ -190,8 +190,8 @@ fn idle_lines(
     Ok(idle)
 }
 
-/// What is to say of all settings of a file together, by whether they make a map: the line after which there are too many ranges, where
-/// there is one; otherwise the lines of a map that can all be left out together, where few lines set something.
+/// Returns the remark on all settings of a file, given whether they form a map: the line after which there are too many
+/// ranges, if there is one; otherwise the lines of a map that can all be removed together, if few lines set something.
 pub(crate) fn remark_on(
     alloc: Global,
     settings: &[Numbered],

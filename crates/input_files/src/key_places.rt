@@ -1,5 +1,6 @@
-//! Where a platform file has the key or the table that a breach is about. The parser of TOML does not say it, so the text is
-//! searched once more: lines that begin with a bare key or a header. A key in quotes, or of a table within a line, is not found.
+//! Locates the key or the table of a breach in a platform file. The TOML parser does not report it, so the text is
+//! searched again for lines that begin with a bare key or a header. A key in quotes, or in an inline table, is not
+//! found.
 
 ghost use Rattle.std.specs.Prelude.{◌≡◌, ◌≤◌, ◌<◌, ◌+◌, ◌-◌, ◌^◌, ◌↔◌, ◌∷◌, length, option_map, true, Some};
 ghost use Rattle.std.specs.List.{prefix_len};
@@ -11,7 +12,7 @@ use crate::breach::{Breach, Key, TomlPath};
 use platforms::PlatformFault;
 use text_lines::{is_blank, len_before};
 
-/// The name of a table, where it has one.
+/// Returns the name of a table, if it has one.
 fn table_word(table: TomlPath) -> Option<&'static str>
     ensures { option_map (λ word. word.now) result ≡ table_word table }
 {
@@ -23,7 +24,7 @@ fn table_word(table: TomlPath) -> Option<&'static str>
     }
 }
 
-/// The key that a broken rule is about, where it is about one.
+/// Returns the key that a broken rule concerns, if there is one.
 fn rule_word(fault: PlatformFault) -> Option<&'static str>
     ensures { option_map (λ word. word.now) result ≡ rule_word fault }
 {
@@ -35,7 +36,7 @@ fn rule_word(fault: PlatformFault) -> Option<&'static str>
     }
 }
 
-/// The key or the name of the table that a breach is about.
+/// Returns the key or the name of the table that a breach concerns.
 fn word_about<'a>(breach: &Breach<'a>) -> Option<&'a str>
     ensures { option_map (λ word. word.now) result ≡ word_about breach.now }
 {
@@ -51,14 +52,14 @@ fn word_about<'a>(breach: &Breach<'a>) -> Option<&'a str>
     }
 }
 
-/// What is searched for: the header of a table, or a key of one.
+/// The object of a search: the header of a table, or a key in a table.
 #[derive(Clone, Copy)]
 pub(crate) enum Sought {
     Header(TomlPath),
     KeyOf(TomlPath),
 }
 
-/// What a breach is about.
+/// Returns the object that a breach concerns.
 fn sought_by(breach: &Breach<'_>) -> Sought
     ensures { result ≡ sought_by breach.now }
 {
@@ -74,19 +75,19 @@ fn sought_by(breach: &Breach<'_>) -> Sought
     }
 }
 
-/// The tables of a text up to a line of it.
+/// The state of the tables at a line of a text.
 #[derive(Clone, Copy)]
 pub(crate) struct Tables {
-    /// The one that the line is of, where a platform may have it.
+    /// The table that contains the line, if it is a table of platforms.
     current: Option<TomlPath>,
-    /// How many ranges of memory have begun.
+    /// The number of ranges of memory so far.
     ram: u64,
-    /// How many devices have begun.
+    /// The number of devices so far.
     devices: u64,
 }
 
 impl Tables {
-    /// Those before the first line.
+    /// Returns the state before the first line.
     fn new() -> Tables
         ensures { result ≡ opening_tables }
     {
@@ -97,7 +98,7 @@ impl Tables {
         }
     }
 
-    /// Those from the header of a table of that name on.
+    /// Updates the state at the header of a table.
     fn begin(&mut self, name: &[u8])
         requires ram { self.old.ram < 2 ^ 64 - 1 }
         requires devices { self.old.devices < 2 ^ 64 - 1 }
@@ -116,7 +117,7 @@ impl Tables {
         };
     }
 
-    /// Those from a line on.
+    /// Updates the state at a line.
     fn follow(&mut self, line: &[u8])
         requires ram { self.old.ram < 2 ^ 64 - 1 }
         requires devices { self.old.devices < 2 ^ 64 - 1 }
@@ -129,7 +130,7 @@ impl Tables {
         }
     }
 
-    /// Whether a line that has the name is what is searched for: a header that has begun, or a key.
+    /// Returns whether a line with the right name matches: a header that begins the table, or a key.
     fn is_there(&self, sought: Sought, is_header: bool) -> bool
         ensures { (result ≡ true) ↔ IsThere sought self.now is_header }
     {
@@ -142,7 +143,7 @@ impl Tables {
         }
     }
 
-    /// Whether a line is what is searched for.
+    /// Returns whether a line matches.
     fn has(&self, sought: Sought, word: &[u8], line: &[u8]) -> bool
         ensures { (result ≡ true) ↔ IsSought sought word.now self.now line.now }
     {
@@ -150,14 +151,14 @@ impl Tables {
     }
 }
 
-/// Whether a byte may be in a bare key of TOML.
+/// Returns whether a byte can be part of a bare key of TOML.
 fn is_bare(byte: u8) -> bool
     ensures { result ≡ is_bare byte }
 {
     byte.is_ascii_alphanumeric() || byte == b'_' || byte == b'-'
 }
 
-/// How many bytes of a bare key a text begins with.
+/// Counts the bytes of the bare key at the front of a text.
 fn bare_len(text: &[u8]) -> usize
     ensures within { result ≤ length text.now }
     ensures len { result ≡ prefix_len is_bare text.now }
@@ -170,7 +171,7 @@ fn bare_len(text: &[u8]) -> usize
     text.len()
 }
 
-/// How many blanks and brackets a line begins with.
+/// Counts the blanks and brackets at the front of a line.
 fn front_len(line: &[u8]) -> usize
     ensures within { result ≤ length line.now }
     ensures len { result ≡ front_len line.now }
@@ -183,14 +184,14 @@ fn front_len(line: &[u8]) -> usize
     line.len()
 }
 
-/// Whether a bracket is among them: the line is the header of a table.
+/// Returns whether a bracket is among them, that is, the line is the header of a table.
 fn is_header(line: &[u8]) -> bool
     ensures { result ≡ is_header line.now }
 {
     line[..front_len(line)].iter().any(|byte| *byte == b'[')
 }
 
-/// The name that follows them.
+/// Returns the name that follows them.
 fn name_of(line: &[u8]) -> &[u8]
     ensures { result.now ≡ name_of line.now }
 {
@@ -198,7 +199,8 @@ fn name_of(line: &[u8]) -> &[u8]
     &rest[..bare_len(rest)]
 }
 
-/// The first line of a text, and what comes after its LF: as `split_line` of `text_lines` has them, and how long both are.
+/// Returns the first line of a text and the rest after its LF: as `split_line` of `text_lines` does, with the sizes of
+/// both.
 fn first_line(text: &[u8]) -> (&[u8], &[u8])
     requires { 0 < length text.now }
     ensures lines { raw_lines text.now ≡ result.0.now ∷ raw_lines result.1.now }
@@ -213,7 +215,7 @@ fn first_line(text: &[u8]) -> (&[u8], &[u8])
     (&text[..len], &text[len + 1..])
 }
 
-/// That byte of a text, where the text has that word there.
+/// Returns the index if the text contains the word there.
 fn where_word_is(text: &[u8], at: usize, word: &[u8]) -> Option<usize>
     ensures { IsKept text.now word.now (Some at) result }
 {
@@ -223,7 +225,7 @@ fn where_word_is(text: &[u8], at: usize, word: &[u8]) -> Option<usize>
     None
 }
 
-/// Where a text has what is searched for, which that word names.
+/// Returns the index of the object with this name in a text.
 fn find(text: &[u8], sought: Sought, word: &[u8]) -> Option<usize>
     ensures { IsPlaceOf text.now sought (Some word.now) result }
 {
@@ -240,8 +242,8 @@ fn find(text: &[u8], sought: Sought, word: &[u8]) -> Option<usize>
     None
 }
 
-/// How many bytes of a text come before what a breach is about: the key, or the name in the header of the table, of the first
-/// line that is it.
+/// Returns the index in a text of the object of a breach: the key, or the name in the header of the table, in the first
+/// line that matches.
 pub(crate) fn place_of(text: &str, breach: &Breach<'_>) -> Option<usize>
     ensures { IsPlaceOf text.now (sought_by breach.now) (word_about breach.now) result }
 {
@@ -249,7 +251,7 @@ pub(crate) fn place_of(text: &str, breach: &Breach<'_>) -> Option<usize>
     find(text.as_bytes(), sought_by(breach), word.as_bytes())
 }
 
-/// How many bytes of a text come before the name in the header of that table.
+/// Returns the index in a text of the name in the header of a table.
 pub(crate) fn header_of(text: &str, table: TomlPath) -> Option<usize>
     ensures { IsPlaceOf text.now (Sought.Header table) (table_word table) result }
 {

@@ -1,8 +1,8 @@
-//! The words that begin events, and what is near to one of them.
+//! The keywords of events, and a search for the one that resembles a word.
 
 use hart_trace::EventKind;
 
-/// The word that begins an event.
+/// Returns the keyword of an event.
 pub(crate) fn keyword(kind: EventKind) -> &'static str {
     match kind {
         EventKind::Fetch => "fetch",
@@ -14,7 +14,7 @@ pub(crate) fn keyword(kind: EventKind) -> &'static str {
     }
 }
 
-/// A letter in lower case.
+/// Converts a letter to lower case.
 fn lower(byte: u8) -> u8 {
     match byte {
         b'A'..=b'Z' => byte + 32,
@@ -22,7 +22,7 @@ fn lower(byte: u8) -> u8 {
     }
 }
 
-/// Whether one of two words begins the other, in either case.
+/// Returns whether one of two words is a prefix of the other, ignoring case.
 fn begins_alike(word: &[u8], keyword: &[u8]) -> bool {
     let [first, word @ ..] = word else {
         return true;
@@ -33,7 +33,7 @@ fn begins_alike(word: &[u8], keyword: &[u8]) -> bool {
     lower(*first) == *letter && begins_alike(word, keyword)
 }
 
-/// Whether one letter of a word is another.
+/// Returns whether two words differ in one letter.
 fn one_letter_off(word: &[u8], keyword: &[u8]) -> bool {
     let [first, word @ ..] = word else {
         return false;
@@ -47,13 +47,13 @@ fn one_letter_off(word: &[u8], keyword: &[u8]) -> bool {
     word.len() == keyword.len() && begins_alike(word, keyword)
 }
 
-/// Whether a word is near to one that begins an event.
+/// Returns whether a word resembles the keyword of an event.
 fn is_near(word: &[u8], kind: EventKind) -> bool {
     let keyword = keyword(kind).as_bytes();
     begins_alike(word, keyword) || one_letter_off(word, keyword)
 }
 
-/// The first event to whose word a word is near.
+/// Returns the first event whose keyword a word resembles.
 pub(crate) fn near_kind(word: &[u8]) -> Option<EventKind> {
     const KINDS: [EventKind; 6] = [
         EventKind::Fetch,

@@ -1,18 +1,21 @@
-//! The input files: what a platform file says, and what is wrong with a map, a trace or a platform file, where, and what would fix it.
+//! Checks the input files: parses platforms, and reports the faults of maps, traces and platforms with their places and
+//! corrections.
 //!
-//! - `platform`: [`platform_of`] answers the platform that a text is, and `NotAPlatform` exactly where the text is not one;
-//!   [`read_form`] reads the ranges and numbers of a TOML document, or answers what it breaks first, a [`Breach`]. `tables` reads the
-//!   tables of ranges and devices, and `key_places` finds where the text has what is broken.
-//! - `platform_lint`: [`lint_platform`] answers whether a file is a platform, and writes one line where it is not one. Of a platform it
-//!   writes a warning for each master of memory that its devices hold, by the table of `masters`.
-//! - `map_lint`: [`lint_map`] writes a line for each line of a map file at fault, and a warning for each that changes nothing of the
-//!   map that the whole file makes; its answer is whether the file is a map. [`map_findings`] are what it writes, as values, and
-//!   [`push_line_costs`] says with how few entries the map can do without each line.
-//! - `trace_lint`: [`lint_trace`] answers whether `run` or `judge` takes each line of a file, and writes a line for each that is not
-//!   taken, by the fault that the parser of traces returned. A [`Taker`] says which of the two it is.
+//! - `platform`: [`platform_of`] returns the platform of a text, and `NotAPlatform` iff the text is not one;
+//!   [`read_form`] reads the ranges and numbers of a TOML document, or returns its first [`Breach`]. `tables` reads the
+//!   tables of ranges and devices, and `key_places` locates the breach in the text.
+//! - `platform_lint`: [`lint_platform`] returns whether a file is a platform, and writes one line if it is not. For a
+//!   platform it writes a warning for each DMA-capable device that its devices contain, according to the table in
+//!   `masters`.
+//! - `map_lint`: [`lint_map`] writes a line for each invalid line of a map file, and a warning for each line without
+//!   effect on the final map; it returns whether the file is a map. [`map_findings`] returns these findings as values,
+//!   and [`push_line_costs`] writes the minimum number of entries of the map without each line.
+//! - `trace_lint`: [`lint_trace`] returns whether `run` or `judge` accepts each line of a file, and writes a line for
+//!   each rejected one, with the fault from the parser of traces, or warnings of doubtful addresses. A [`Taker`]
+//!   selects one of the two commands.
 //!
-//! What is decided has a contract: which line or key is at fault, for what reason, and whether the file is what it should be. The words
-//! for it have none.
+//! Contracts cover the decisions: the line or key at fault, the reason, and whether the file is valid. They do not
+//! cover the wording.
 //!
 //! ```text
 //! board.toml: device 1: perm is no permission; write none, r, rw, x, rx or rwx
@@ -35,8 +38,10 @@ mod map_lint;
 mod map_numbers;
 mod map_perms;
 mod map_settings;
+mod map_warnings;
 mod map_words;
 mod masters;
+mod meant_numbers;
 mod overlap;
 mod platform;
 mod platform_lint;
@@ -47,6 +52,7 @@ mod said_words;
 mod tables;
 mod taker;
 mod trace_lint;
+mod trace_warnings;
 mod trace_words;
 mod warnings;
 

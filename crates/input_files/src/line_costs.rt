@@ -1,9 +1,9 @@
-//! The costs of the lines.
+//! The costs of the lines of a map.
 
-ghost use Rattle.std.specs.Prelude.{◌≡◌, ◌++◌, ◌-◌, ◌^◌, ◌<◌, ℕ, IfOk, List, length, min};
+ghost use Rattle.std.specs.Prelude.{◌≡◌, ◌++◌, ◌-◌, ◌^◌, ◌<◌, ◌≤◌, ℕ, IfOk, List, length};
 ghost use Rattle.std.specs.List.{All};
 ghost use Rattle.input_files.specs.Settings.{IsInside};
-ghost use Rattle.input_files.specs.Costs.{AreCosts, HasCost};
+ghost use Rattle.input_files.specs.Costs.{AreCosts, HasCost, looked_at};
 
 use crate::idle_lines::{Numbered, map_of_both};
 use crate::map_settings::settings_in;
@@ -12,19 +12,35 @@ use permission_map::Memory;
 use std::alloc::Global;
 use text_lines::{push, push_number};
 
-/// How many lines are looked at.
+/// Maximum number of lines to evaluate.
 const MOST: usize = 512;
 
-/// What the other lines of a map file cost without one.
+/// Maximum number of settings to apply for all lines together. Without each line the others are applied again; this many take a
+/// second or two.
+const FOLLOWED: usize = 1 << 19;
+
+/// Returns the number of lines to evaluate if this many set something.
+fn looked_at(count: usize) -> usize
+    ensures value { result ≡ looked_at count }
+    ensures most { result ≤ count }
+{
+    if count == 0 {
+        return 0;
+    }
+    count.min(MOST.min(FOLLOWED / count))
+}
+
+/// The cost of a map file's other lines without one line.
 #[derive(Clone, Copy)]
 pub struct LineCost {
     /// The number of the line, from 1.
     pub line: u64,
-    /// The fewest entries of the map of all others, where there are never too many ranges.
+    /// The minimum number of entries of the map of all other lines, unless there are too many ranges.
     pub fewest: Option<u64>,
 }
 
-/// The fewest entries of the map that settings and those after them make; nothing where there are too many ranges.
+/// Returns the minimum number of entries of the map of some settings followed by others, or `None` if there are too
+/// many ranges.
 fn cost_of(alloc: Global, kept: &[Numbered], rest: &[Numbered]) -> Result<Option<u64>, Memory>
     requires kept { All IsInside kept.now }
     requires rest { All IsInside rest.now }
@@ -37,14 +53,14 @@ fn cost_of(alloc: Global, kept: &[Numbered], rest: &[Numbered]) -> Result<Option
     Ok(Some(u64::from(plan.needed())))
 }
 
-/// What the map of all others needs, for each of the first 512 settings at most.
+/// Returns the minimum number of entries of the map of all other settings, for each setting to evaluate.
 fn costs_of(alloc: Global, settings: &[Numbered]) -> Result<Vec<LineCost>, Memory>
     requires { All IsInside settings.now }
     ensures { IfOk result (λ costs.
-        AreCosts settings.now (min (length settings.now) 512) costs.items) }
+        AreCosts settings.now (looked_at (length settings.now)) costs.items) }
 {
     let mut costs = Vec::new(alloc);
-    for i in 0..settings.len().min(MOST) {
+    for i in 0..looked_at(settings.len()) {
         let fewest = cost_of(alloc, &settings[..i], &settings[i + 1..])?;
         costs.push(LineCost {
             line: settings[i].line,
@@ -54,7 +70,7 @@ fn costs_of(alloc: Global, settings: &[Numbered]) -> Result<Vec<LineCost>, Memor
     Ok(costs)
 }
 
-/// Appends what is said of a line.
+/// Appends the line on a cost.
 fn push_cost(text: &mut Vec<u8>, cost: &LineCost) -> Result<(), Memory> {
     push(text, "without line ")?;
     push_number(text, cost.line)?;
@@ -73,7 +89,7 @@ fn push_cost(text: &mut Vec<u8>, cost: &LineCost) -> Result<(), Memory> {
     )
 }
 
-/// The lines on the costs, and how many more lines set something.
+/// Returns the lines on the costs, and the number of further lines that set something.
 fn costs_text(alloc: Global, costs: &[LineCost], more: usize) -> Result<Vec<u8>, Memory> {
     let mut text = Vec::new(alloc);
     for cost in costs {
@@ -87,8 +103,8 @@ fn costs_text(alloc: Global, costs: &[LineCost], more: usize) -> Result<Vec<u8>,
     Ok(text)
 }
 
-/// Appends a line for each line of a map file that sets something, at most 512 of them: how many entries the map of all others
-/// needs. The only error is out of memory.
+/// Appends a line for each line of a map file that sets something, at most 512 of them and fewer if more than 1024 do, with the
+/// minimum number of entries of the map of all other lines. The only error is a failed allocation.
 pub fn push_line_costs(alloc: Global, text: &mut Vec<u8>, bytes: &[u8]) -> Result<(), Memory>
     requires { length bytes.now < 2 ^ 64 - 1 }
     ensures { IfOk result (λ _. (said : List ℕ) × (text.new.items ≡ text.old.items ++ said)) }

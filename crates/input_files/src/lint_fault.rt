@@ -1,10 +1,10 @@
-//! Why a file was not looked at to its end.
+//! Errors of a lint.
 
-/// Why a file was not looked at to its end.
+/// The reason why a lint did not finish.
 #[derive(Clone, Copy, Debug)]
 pub enum LintFault {
-    /// Memory was refused.
+    /// An allocation failed.
     Memory,
-    /// The device failed, or took none of some bytes.
+    /// The device failed, or accepted no bytes.
     Device,
 }

@@ -14,25 +14,25 @@ use permission_map::Memory;
 use std::alloc::Global;
 use text_lines::{push, split_line};
 
-/// A line of a map file that is not understood.
+/// An invalid line of a map file.
 #[derive(Clone, Copy)]
 pub struct UnknownLine<'a> {
-    /// Its number, from 1.
+    /// The number of the line, from 1.
     pub line: u64,
     /// The line without its LF.
     pub raw: &'a [u8],
 }
 
-/// What is found in a map file.
+/// The findings in a map file.
 #[derive(Drop)]
 pub struct MapFindings<'a> {
-    /// The lines that are not understood.
+    /// The invalid lines.
     pub unknown: Vec<UnknownLine<'a>>,
-    /// What is to say of all others together.
+    /// The remark on all other lines together.
     pub remark: MapRemark,
 }
 
-/// The lines of a file that are not understood.
+/// Returns the invalid lines of a file.
 fn unknown_lines<'a>(alloc: Global, bytes: &'a [u8]) -> Result<Vec<UnknownLine<'a>>, Memory>
     requires { length bytes.now < 2 ^ 64 - 1 }
     ensures { IfOk result (λ unknown.
@@ -52,8 +52,8 @@ fn unknown_lines<'a>(alloc: Global, bytes: &'a [u8]) -> Result<Vec<UnknownLine<'
     Ok(unknown)
 }
 
-/// What is found in a file, by whether it is a map: the lines that are not understood, and the line after which there are too many
-/// ranges, or the lines of a map that change nothing.
+/// Returns the findings in a file, given whether it is a map: the invalid lines, and the line after which there are too
+/// many ranges, or the lines of a map that have no effect.
 pub fn map_findings<'a>(
     alloc: Global,
     bytes: &'a [u8],
@@ -71,7 +71,7 @@ pub fn map_findings<'a>(
     Ok(MapFindings { unknown, remark })
 }
 
-/// Appends what is said of a line without which the map is the same.
+/// Appends the finding on a line that can be removed without changing the map.
 fn push_idle(text: &mut Vec<u8>, name: &str, idle: &IdleLine) -> Result<(), Memory> {
     push_place(text, name, idle.line)?;
     if idle.redundant {
@@ -86,7 +86,7 @@ fn push_idle(text: &mut Vec<u8>, name: &str, idle: &IdleLine) -> Result<(), Memo
     )
 }
 
-/// Appends what is said of all lines together.
+/// Appends the remark on all lines together.
 fn push_remark(text: &mut Vec<u8>, name: &str, remark: &MapRemark) -> Result<(), Memory> {
     match remark {
         MapRemark::Nothing => Ok(()),
@@ -106,7 +106,7 @@ fn push_remark(text: &mut Vec<u8>, name: &str, remark: &MapRemark) -> Result<(),
     }
 }
 
-/// Appends a line for each finding: its place, what is wrong there, and what would fix it.
+/// Appends a line for each finding, with its place, the fault and the correction.
 pub fn push_map_findings(
     text: &mut Vec<u8>,
     name: &str,

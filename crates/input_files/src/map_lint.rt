@@ -9,12 +9,13 @@ ghost use Rattle.input_files.specs.Maps.{IsAtFault, IsVerdictOfLines};
 
 use crate::LintFault;
 use crate::map_faults::{map_findings, push_map_findings};
+use crate::map_warnings::push_map_warnings;
 use map_text::{MapFileFault, map_of};
 use permission_map::Memory;
 use std::alloc::{AllocError, Global};
 use text_lines::{Sink, write_whole};
 
-/// Whether the file is a map.
+/// Returns whether the file is a map.
 fn is_map(alloc: Global, bytes: &[u8]) -> Result<bool, Memory>
     requires { length bytes.now < 2 ^ 64 - 1 }
     ensures map { result ≡ Ok true → (map : List Run) × Makes bytes.now map }
@@ -29,18 +30,21 @@ fn is_map(alloc: Global, bytes: &[u8]) -> Result<bool, Memory>
     }
 }
 
-/// The lines for what is found in a file.
+/// Returns the lines for the findings in a file.
 fn lines_of(alloc: Global, name: &str, bytes: &[u8], is_map: bool) -> Result<Vec<u8>, Memory>
     requires { length bytes.now < 2 ^ 64 - 1 }
 {
     let findings = map_findings(alloc, bytes, is_map)?;
     let mut text = Vec::new(alloc);
     push_map_findings(&mut text, name, &findings)?;
+    if is_map {
+        push_map_warnings(alloc, &mut text, name, bytes)?;
+    }
     Ok(text)
 }
 
-/// Writes what is wrong with a map file, a line for each of its lines at fault, and warnings. The answer is whether it is a
-/// map. Where memory is refused nothing was written.
+/// Writes a line for each fault of a map file, and warnings. Returns whether it is a map. If an allocation fails,
+/// nothing was written.
 pub fn lint_map<W: Sink>(
     alloc: Global,
     name: &str,

@@ -1,8 +1,10 @@
-//! Words that should be numbers of bytes, of whole pages.
+//! Words that should be numbers of bytes that form whole pages.
 
 ghost use Rattle.std.specs.Prelude.{◌^◌, ◌<◌, ◌≤◌};
 
-use crate::said_words::{begins_comment, no_number, push_column, push_quoted};
+use crate::meant_numbers::meant_range;
+use crate::said_words;
+use crate::said_words::{begins_comment, push_column, push_quoted};
 use permission_map::Memory;
 use pmp_encoding::SPACE_SIZE;
 use text_lines::{Placed, numeral, push, push_address};
@@ -14,7 +16,7 @@ fn push_named(text: &mut Vec<u8>, name: &str, before: usize) -> Result<(), Memor
     push(text, " ")
 }
 
-/// Appends what is wrong with a word that is no number.
+/// Appends the fault of a word that is not a number.
 pub(crate) fn push_no_number(
     text: &mut Vec<u8>,
     name: &str,
@@ -22,15 +24,15 @@ pub(crate) fn push_no_number(
 ) -> Result<(), Memory> {
     push_named(text, name, placed.before)?;
     push_quoted(text, placed.word)?;
-    push(text, no_number(placed.word))
+    said_words::push_no_number(text, placed.word)
 }
 
-/// Whether a text contains a hyphen.
+/// Returns whether a text contains a hyphen.
 fn any_hyphen(text: &[u8]) -> bool {
     text.iter().any(|byte| *byte == b'-')
 }
 
-/// Whether a word contains a hyphen after its first byte.
+/// Returns whether a word contains a hyphen after its first byte.
 fn has_hyphen(word: &[u8]) -> bool {
     match word {
         [_, rest @ ..] => any_hyphen(rest),
@@ -38,33 +40,47 @@ fn has_hyphen(word: &[u8]) -> bool {
     }
 }
 
-/// Whether a word begins a line of OpenSBI's boot log.
+/// Returns whether a word begins a line of OpenSBI's boot log.
 fn is_domain(word: &[u8]) -> bool {
     word == b"Domain0".as_slice()
 }
 
-/// What is wrong with a first word that is no number.
-fn base_fault(word: &[u8]) -> &'static str {
-    if begins_comment(word) {
-        return " is no number; a comment begins with #";
-    }
-    if has_hyphen(word) {
-        return " is no number; a line is BASE SIZE PERM, SIZE in bytes";
-    }
-    if is_domain(word) {
-        return " is no number; 'pmpmon map' reads a boot log";
-    }
-    no_number(word)
+/// Appends the BASE and SIZE of a range in one word.
+fn push_range(text: &mut Vec<u8>, first: u64, bytes: u64) -> Result<(), Memory> {
+    push(text, " is a range; write ")?;
+    push_address(text, first)?;
+    push(text, " ")?;
+    push_address(text, bytes)
 }
 
-/// Appends what is wrong with a first word that is no number.
+/// Appends the fault of a first word that is not a number.
+fn push_base_fault(text: &mut Vec<u8>, word: &[u8]) -> Result<(), Memory> {
+    if begins_comment(word) {
+        return push(text, " is no number; a comment begins with #");
+    }
+    if let Some((first, bytes)) = meant_range(word) {
+        return push_range(text, first, bytes);
+    }
+    if has_hyphen(word) {
+        return push(
+            text,
+            " is no number; a line is BASE SIZE PERM, SIZE in bytes",
+        );
+    }
+    if is_domain(word) {
+        return push(text, " is no number; 'pmpmon map' reads a boot log");
+    }
+    said_words::push_no_number(text, word)
+}
+
+/// Appends the fault of a first word that is not a number.
 pub(crate) fn push_no_base(text: &mut Vec<u8>, placed: Placed<'_>) -> Result<(), Memory> {
     push_named(text, "BASE", placed.before)?;
     push_quoted(text, placed.word)?;
-    push(text, base_fault(placed.word))
+    push_base_fault(text, placed.word)
 }
 
-/// Whether digits are a whole number of pages as hexadecimal ones, and at most this many bytes.
+/// Returns whether digits, read as hexadecimal, are a whole number of pages of at most `most` bytes.
 fn is_whole_hex(digits: &[u8], most: u64) -> bool {
     match numeral(digits, 16) {
         Some(n) => n % 4096 == 0 && n <= most,
@@ -72,7 +88,7 @@ fn is_whole_hex(digits: &[u8], most: u64) -> bool {
     }
 }
 
-/// Appends that `0x` is wanting before the digits of a number.
+/// Appends that `0x` is missing before the digits of a number.
 fn push_hex(text: &mut Vec<u8>, name: &str, placed: Placed<'_>) -> Result<(), Memory> {
     push_named(text, name, placed.before)?;
     text.extend_from_slice(placed.word)?;
@@ -81,7 +97,7 @@ fn push_hex(text: &mut Vec<u8>, name: &str, placed: Placed<'_>) -> Result<(), Me
     Ok(())
 }
 
-/// Appends that a word's number of bytes is no number of whole pages.
+/// Appends that a word's number of bytes does not form whole pages.
 fn push_part(text: &mut Vec<u8>, name: &str, placed: Placed<'_>) -> Result<(), Memory> {
     push_named(text, name, placed.before)?;
     text.extend_from_slice(placed.word)?;
@@ -89,7 +105,7 @@ fn push_part(text: &mut Vec<u8>, name: &str, placed: Placed<'_>) -> Result<(), M
     Ok(())
 }
 
-/// The bytes of the fewest whole pages that have this many.
+/// Rounds a number of bytes up to whole pages.
 fn whole_bytes(bytes: u64) -> u64
     requires { bytes < 2 ^ 63 }
 {
@@ -109,13 +125,13 @@ fn push_whole_pages(text: &mut Vec<u8>, first: u64, bytes: u64) -> Result<(), Me
     Ok(())
 }
 
-/// Appends where the page of a byte begins.
+/// Appends the start of the page of a byte.
 fn push_page(text: &mut Vec<u8>, first: u64) -> Result<(), Memory> {
     push(text, "its page begins at ")?;
     push_address(text, first - first % 4096)
 }
 
-/// Appends what fixes a base that is no whole number of pages.
+/// Appends the correction of a base that is not a multiple of a page.
 fn push_base_mend(text: &mut Vec<u8>, first: u64, bytes: u64) -> Result<(), Memory>
     requires { first ≤ 2 ^ 56 }
 {
@@ -125,7 +141,7 @@ fn push_base_mend(text: &mut Vec<u8>, first: u64, bytes: u64) -> Result<(), Memo
     push_page(text, first)
 }
 
-/// Appends what is wrong with a base that is no whole number of pages.
+/// Appends the fault of a base that is not a multiple of a page.
 pub(crate) fn push_base_part(
     text: &mut Vec<u8>,
     base: Placed<'_>,
@@ -141,7 +157,7 @@ pub(crate) fn push_base_part(
     push_base_mend(text, first, bytes)
 }
 
-/// What comes before the whole pages of a size.
+/// Returns the text before the whole pages of a size.
 fn pages_mend(bytes: u64) -> &'static str {
     if bytes < 4096 {
         "the whole page is "
@@ -150,7 +166,7 @@ fn pages_mend(bytes: u64) -> &'static str {
     }
 }
 
-/// Appends what fixes a size that is no whole number of pages.
+/// Appends the correction of a size that is not a multiple of a page.
 fn push_size_mend(text: &mut Vec<u8>, bytes: u64) -> Result<(), Memory>
     requires { bytes ≤ 2 ^ 56 }
 {
@@ -158,7 +174,7 @@ fn push_size_mend(text: &mut Vec<u8>, bytes: u64) -> Result<(), Memory>
     push_address(text, whole_bytes(bytes))
 }
 
-/// Appends what is wrong with a size that is no whole number of pages, from that base on.
+/// Appends the fault of a size that is not a multiple of a page, given its base.
 pub(crate) fn push_size_part(
     text: &mut Vec<u8>,
     size: Placed<'_>,

@@ -6,24 +6,24 @@ use crate::said_words::{push_column, push_quoted};
 use permission_map::Memory;
 use text_lines::push;
 
-/// Whether a byte is a lower-case letter, in either case.
+/// Returns whether a byte is this lower-case letter, ignoring case.
 fn is_letter(letter: u8, byte: u8) -> bool
     requires { byte < 2 ^ 8 }
 {
     byte == letter || u16::from(byte) + 32 == u16::from(letter)
 }
 
-/// Whether a byte is r, w or x in either case, or a hyphen.
+/// Returns whether a byte is r, w or x, ignoring case, or a hyphen.
 fn is_perm_letter(byte: u8) -> bool {
     is_letter(b'r', byte) || is_letter(b'w', byte) || is_letter(b'x', byte) || byte == b'-'
 }
 
-/// Whether a letter occurs in a word, in either case.
+/// Returns whether a letter occurs in a word, ignoring case.
 fn has_letter(letter: u8, word: &[u8]) -> bool {
     word.iter().any(|byte| is_letter(letter, *byte))
 }
 
-/// What to write for letters with or without r, w and x.
+/// Returns the correction for letters with or without r, w and x.
 fn mend_of(has_r: bool, has_w: bool, has_x: bool) -> &'static str {
     match (has_r, has_w, has_x) {
         (false, true, false) => " is reserved: W without R; write rw",
@@ -37,7 +37,7 @@ fn mend_of(has_r: bool, has_w: bool, has_x: bool) -> &'static str {
     }
 }
 
-/// What to write for a word of such letters.
+/// Returns the correction for a word of such letters.
 fn letters_mend(word: &[u8]) -> &'static str {
     mend_of(
         has_letter(b'r', word),
@@ -50,7 +50,7 @@ fn are_perm_letters(word: &[u8]) -> bool {
     word.iter().all(|byte| is_perm_letter(*byte))
 }
 
-/// Whether a word is `none` in letters of either case.
+/// Returns whether a word is `none`, ignoring case.
 fn is_none_word(word: &[u8]) -> bool {
     match word {
         [a, b, c, d] => {
@@ -61,7 +61,7 @@ fn is_none_word(word: &[u8]) -> bool {
     }
 }
 
-/// What is wrong with a word that is no permission.
+/// Returns the fault of a word that is not a permission.
 fn fault_of(word: &[u8]) -> &'static str {
     if are_perm_letters(word) {
         return letters_mend(word);
@@ -72,7 +72,7 @@ fn fault_of(word: &[u8]) -> &'static str {
     " is no permission; write none, r, rw, x, rx or rwx"
 }
 
-/// Appends what is wrong with a word that is no permission.
+/// Appends the fault of a word that is not a permission.
 pub(crate) fn push_perm(text: &mut Vec<u8>, before: usize, word: &[u8]) -> Result<(), Memory> {
     push_column(text, before)?;
     push(text, "PERM ")?;

@@ -1,4 +1,4 @@
-//! What the lines of a map file set.
+//! The settings of the lines of a map file.
 
 ghost use Rattle.std.specs.Prelude.{◌≡◌, ◌-◌, ◌^◌, ◌<◌, IfOk, length};
 ghost use Rattle.std.specs.List.{All};
@@ -11,8 +11,8 @@ use permission_map::Memory;
 use std::alloc::Global;
 use text_lines::split_line;
 
-/// What the lines of a file set, in their order, each with its number; a line that is not understood sets nothing. The only
-/// error is out of memory.
+/// Returns the settings of the lines of a file, in their order, with their line numbers. An invalid line sets nothing.
+/// The only error is a failed allocation.
 pub(crate) fn settings_in(alloc: Global, bytes: &[u8]) -> Result<Vec<Numbered>, Memory>
     requires { length bytes.now < 2 ^ 64 - 1 }
     ensures set { IfOk result (λ settings.

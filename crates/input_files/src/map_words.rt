@@ -1,4 +1,4 @@
-//! Why a line of a map file is not understood, and what would fix it.
+//! Explains why a line of a map file is invalid, with a correction.
 
 ghost use Rattle.std.specs.Prelude.{◌^◌, ◌≤◌};
 
@@ -12,7 +12,7 @@ use text_lines::{
     without_return, word_from,
 };
 
-/// Appends how large a size may be at most.
+/// Appends the maximum size.
 fn push_most(text: &mut Vec<u8>, first: u64) -> Result<(), Memory>
     requires { first ≤ 2 ^ 56 }
 {
@@ -30,7 +30,7 @@ fn push_past_end(text: &mut Vec<u8>, size_at: usize, first: u64) -> Result<(), M
     Ok(())
 }
 
-/// Appends that a base does not lie in the space.
+/// Appends that a base is outside the space.
 fn push_past(text: &mut Vec<u8>, base_at: usize) -> Result<(), Memory> {
     push_column(text, base_at)?;
     push(
@@ -39,7 +39,7 @@ fn push_past(text: &mut Vec<u8>, base_at: usize) -> Result<(), Memory> {
     )
 }
 
-/// Appends what is wrong with the first of two numbers and a word that is at fault.
+/// Appends the fault of a range whose base and size are numbers, given the word at fault.
 fn push_range(
     text: &mut Vec<u8>,
     base: Placed<'_>,
@@ -63,7 +63,7 @@ fn push_range(
     push_perm(text, perm.before, perm.word)
 }
 
-/// Appends what is wrong with three words, of which the first is this number.
+/// Appends the fault of three words, of which the first is this number.
 fn push_three(
     text: &mut Vec<u8>,
     base: Placed<'_>,
@@ -77,7 +77,7 @@ fn push_three(
     push_range(text, base, size, perm, first, bytes)
 }
 
-/// Appends what is wrong with the words of a line without its comment.
+/// Appends the fault of the words of a line without its comment.
 fn push_words(text: &mut Vec<u8>, line: &[u8]) -> Result<(), Memory> {
     let base = word_from(line, 0);
     let Some(first) = number(base.word) else {
@@ -101,7 +101,7 @@ fn push_words(text: &mut Vec<u8>, line: &[u8]) -> Result<(), Memory> {
     push_three(text, base, size, perm, first)
 }
 
-/// Appends what is wrong with a line that comes without its LF and its CR.
+/// Appends the fault of a line without its LF and CR.
 fn push_line(text: &mut Vec<u8>, line: &[u8]) -> Result<(), Memory> {
     let content = content_of(line);
     if are_allowed(content) {
@@ -112,7 +112,7 @@ fn push_line(text: &mut Vec<u8>, line: &[u8]) -> Result<(), Memory> {
     push(text, byte_fault(&line[at..]))
 }
 
-/// Appends why a line of at most 1023 bytes is not understood.
+/// Appends the fault of a line of at most 1023 bytes.
 fn push_short(text: &mut Vec<u8>, raw: &[u8]) -> Result<(), Memory> {
     if has_mark(raw) {
         return push(text, "1: a byte order mark; save the file without one");
@@ -120,7 +120,7 @@ fn push_short(text: &mut Vec<u8>, raw: &[u8]) -> Result<(), Memory> {
     push_line(text, without_return(raw))
 }
 
-/// Appends the column and the reason for which a line is not understood, and what would fix it.
+/// Appends the column and the reason why a line is invalid, with a correction.
 pub(crate) fn push_reason(text: &mut Vec<u8>, raw: &[u8]) -> Result<(), Memory> {
     if raw.len() > LONGEST {
         push_column(text, LONGEST)?;

@@ -1,4 +1,4 @@
-//! Masters of memory: parts of boards that read and write memory by themselves (DMA), and where boards have them.
+//! The table of DMA-capable devices and their addresses on known boards.
 
 ghost use Rattle.std.specs.Prelude.{◌≡◌};
 ghost use Rattle.input_files.specs.Masters.{masters};
@@ -10,12 +10,12 @@ pub enum KnownBoard {
     Virt,
     /// SiFive's FU540 and FU740.
     Sifive,
-    /// SiFive's FU740 alone.
+    /// SiFive's FU740 only.
     Fu740,
 }
 
 impl KnownBoard {
-    /// What it is called.
+    /// Returns the name of the board.
     pub fn name(self) -> &'static str {
         match self {
             KnownBoard::Virt => "QEMU's virt board",
@@ -25,23 +25,23 @@ impl KnownBoard {
     }
 }
 
-/// What reads and writes memory by itself.
+/// A kind of DMA-capable device.
 #[derive(Clone, Copy)]
 pub enum MasterKind {
-    /// Slots of virtio.
+    /// Virtio slots.
     Virtio,
     /// QEMU's firmware configuration.
     FwCfg,
-    /// A host bridge of PCI Express.
+    /// A PCI Express host bridge.
     Pcie,
-    /// A controller that copies memory.
+    /// A DMA controller.
     Dma,
     /// A network controller.
     Ethernet,
 }
 
 impl MasterKind {
-    /// What it is called.
+    /// Returns the name of the kind.
     pub fn name(self) -> &'static str {
         match self {
             MasterKind::Virtio => "virtio",
@@ -53,12 +53,12 @@ impl MasterKind {
     }
 }
 
-/// Pages in which a board has a master of memory.
+/// A DMA-capable device of a board, with its pages.
 #[derive(Clone, Copy)]
 pub struct Master {
     /// The board.
     pub board: KnownBoard,
-    /// What it has there.
+    /// The kind of device.
     pub kind: MasterKind,
     /// The first byte of its pages.
     pub first: u64,
@@ -66,7 +66,7 @@ pub struct Master {
     pub last: u64,
 }
 
-/// All that are known.
+/// All known devices.
 const MASTERS: [Master; 12] = [
     Master {
         board: KnownBoard::Virt,
@@ -142,7 +142,7 @@ const MASTERS: [Master; 12] = [
     },
 ];
 
-/// All masters that are known, board by board.
+/// Returns all known DMA-capable devices, board by board.
 pub(crate) fn masters() -> &'static [Master]
     ensures { result.now ≡ masters }
 {

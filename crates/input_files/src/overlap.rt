@@ -10,7 +10,7 @@ use crate::breach::{PlacedRange, TomlPath};
 use pmp_encoding::{PageRange, Perm};
 use std::alloc::{AllocError, Global};
 
-/// Whether two ranges have no page in common.
+/// Returns whether two ranges have no page in common.
 fn are_apart(bounds: (u64, u64), other: (u64, u64)) -> bool
     ensures { IsTrue result ↔ AreRangesApart bounds other }
 {
@@ -18,7 +18,7 @@ fn are_apart(bounds: (u64, u64), other: (u64, u64)) -> bool
     pages.is_apart_from(PageRange::of_bytes(other.0, other.1))
 }
 
-/// The first of some ranges that has a page in common with this one.
+/// Returns the first of some ranges that has a page in common with this one.
 fn first_meeting(bounds: (u64, u64), others: &[PlacedRange]) -> Option<PlacedRange>
     ensures some { IfSome result (λ other. (i : ℕ) × (slice_get others.now i ≡ Some other)
         × (AreRangesApart bounds other.bounds → ⊥)
@@ -35,7 +35,7 @@ fn first_meeting(bounds: (u64, u64), others: &[PlacedRange]) -> Option<PlacedRan
     None
 }
 
-/// The first two of some ranges that have a page in common.
+/// Returns the first two of some ranges that have a page in common.
 pub(crate) fn overlap_in(ranges: &[PlacedRange]) -> Option<(PlacedRange, PlacedRange)>
     ensures some { IfSome result (λ two. IsOverlap ranges.now two.0 two.1) }
     ensures none { result ≡ None → EachApart (map (λ range. range.bounds) ranges.now) }
@@ -48,7 +48,7 @@ pub(crate) fn overlap_in(ranges: &[PlacedRange]) -> Option<(PlacedRange, PlacedR
     None
 }
 
-/// The ranges of memory and those of devices, each with its place.
+/// Returns the ranges of memory and of devices, each with its place.
 pub(crate) fn placed_ranges(
     alloc: Global,
     ram: &[(u64, u64)],

@@ -1,4 +1,4 @@
-//! The platform of a text.
+//! Reads the platform of a text.
 
 ghost use Rattle.std.specs.Prelude.{◌≡◌, ◌++◌, ◌<◌, ◌≤◌, Err, IfErr, IfOk, Some, codes, map};
 ghost use Rattle.std.specs.List.{All};
@@ -22,7 +22,7 @@ use pmp_encoding::Perm;
 use std::alloc::{AllocError, Global};
 use toml::Table;
 
-/// The ranges and numbers of a document. Its ranges are of whole pages; the other rules on platforms they may break.
+/// The ranges and numbers of a document. Its ranges consist of whole pages, but may break the other rules on platforms.
 #[derive(Drop)]
 pub struct PlatformForm {
     /// The range of the monitor: its base and its size, in bytes.
@@ -66,7 +66,7 @@ fn ram_in<'a>(alloc: Global, document: &'a Table) -> Result<Vec<(u64, u64)>, Doc
     }
 }
 
-/// Reads the devices: none where none are given.
+/// Reads the devices. A missing array has no devices.
 fn devices_in<'a>(
     alloc: Global,
     document: &'a Table,
@@ -86,7 +86,7 @@ fn devices_in<'a>(
     }
 }
 
-/// Reads a number of the file that may be left out.
+/// Reads an optional number of the file.
 fn number_in<'a>(document: &'a Table, key: Key, usual: u64) -> Result<u64, Breach<'a>>
     ensures ok { IfOk result (λ n.
         number_or usual (key_name key) (table_view document.now) ≡ Some n) }
@@ -134,7 +134,7 @@ fn byte_of(n: u64) -> u8
     if n < 256 { n as u8 } else { 255 }
 }
 
-/// The platform of these ranges and numbers, or the first rule that they break.
+/// Returns the platform of these ranges and numbers, or the first rule that they break.
 fn built(
     monitor: (u64, u64),
     ram: &[(u64, u64)],
@@ -150,7 +150,8 @@ fn built(
         .with_entries(byte_of(entries))
 }
 
-/// A rule on platforms as what a document breaks: of two ranges that have a page in common, both.
+/// Converts a broken rule on platforms to a breach of a document. An overlap includes the two ranges that have a page
+/// in common.
 fn breach_by(
     alloc: Global,
     fault: PlatformFault,
@@ -193,13 +194,13 @@ pub(crate) fn read_platform<'a>(
     }
 }
 
-/// The platform that a text is: a TOML document with a table `monitor` and an array of tables `ram`, each of a `base` and
-/// a `size` in bytes, and, where they are given, an array of tables `device`, each with a `perm` too, the number of
-/// `harts`, 1 to 4, and the number of PMP `entries` to a hart, 16 or 64. No other key is allowed anywhere, and the ranges
-/// keep the rules of [`Platform::new`].
+/// Returns the platform of a text: a TOML document with a table `monitor` and an array of tables `ram`, each with a
+/// `base` and a `size` in bytes, and optionally an array of tables `device`, each with a `perm` too, the number of
+/// `harts`, 1 to 4, and the number of PMP `entries` per hart, 16 or 64. No other key is allowed anywhere, and the
+/// ranges must obey the rules of [`Platform::new`].
 ///
-/// Refused with [`TextFault::NotAPlatform`] exactly where the text is not one, and with [`TextFault::Memory`] where memory
-/// was refused.
+/// Fails with [`TextFault::NotAPlatform`] iff the text is not a platform, and with [`TextFault::Memory`] if an
+/// allocation failed.
 pub fn platform_of(alloc: Global, text: &str) -> Result<Platform, TextFault>
     ensures ok { IfOk result (IsPlatformText text.now) }
     ensures refused { result ≡ Err TextFault.NotAPlatform → (platform : PlatformLayout)

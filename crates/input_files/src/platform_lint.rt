@@ -19,7 +19,7 @@ use std::str;
 use text_lines::{Sink, push, write_whole};
 use toml::de::Error;
 
-/// How many bytes of a text come before the place where the library stopped reading it.
+/// Returns the number of bytes of a text before the place of a syntax error.
 fn start_of(error: &Error) -> usize
     requires { ¬ IsMemory error.now }
     ensures { result ≡ span_start error.now }
@@ -30,7 +30,7 @@ fn start_of(error: &Error) -> usize
     }
 }
 
-/// The line for a text that is no document: where it stops being one, and why, in the words of the library that reads it.
+/// Returns the line for a text that is not a document: the place of the syntax error and the parser's message.
 fn syntax_line(alloc: Global, name: &str, text: &str, error: &Error) -> Result<Vec<u8>, AllocError>
     requires within { IsWithin text.now error.now }
     requires syntax { ¬ IsMemory error.now }
@@ -43,7 +43,7 @@ fn syntax_line(alloc: Global, name: &str, text: &str, error: &Error) -> Result<V
     Ok(line)
 }
 
-/// The line for what a document breaks first.
+/// Returns the line for the first breach of a document.
 fn breach_line(
     alloc: Global,
     name: &str,
@@ -58,7 +58,7 @@ fn breach_line(
     Ok(line)
 }
 
-/// The line for bytes that are no text.
+/// Returns the line for bytes that are not UTF-8.
 fn no_text(alloc: Global, name: &str) -> Result<Vec<u8>, AllocError> {
     let mut line = Vec::new(alloc);
     push(&mut line, name)?;
@@ -66,7 +66,7 @@ fn no_text(alloc: Global, name: &str) -> Result<Vec<u8>, AllocError> {
     Ok(line)
 }
 
-/// Whether a text is a platform, and what is written of it.
+/// Returns whether a text is a platform, and the lines to write.
 fn lint_text(alloc: Global, name: &str, text: &str) -> Result<(bool, Vec<u8>), AllocError>
     ensures { IfOk result (λ answer. IsTextVerdict text.now answer.0) }
 {
@@ -87,7 +87,7 @@ fn lint_text(alloc: Global, name: &str, text: &str) -> Result<(bool, Vec<u8>), A
     }
 }
 
-/// Whether bytes are a platform, and what is written of them.
+/// Returns whether bytes are a platform, and the lines to write.
 fn lint_bytes(alloc: Global, name: &str, bytes: &[u8]) -> Result<(bool, Vec<u8>), AllocError>
     ensures { IfOk result (λ answer. IsPlatformVerdict bytes.now answer.0) }
 {
@@ -97,9 +97,9 @@ fn lint_bytes(alloc: Global, name: &str, bytes: &[u8]) -> Result<(bool, Vec<u8>)
     }
 }
 
-/// Writes what there is to say of a file that should be a platform, and answers whether it is one: of a platform a warning for
-/// each master of memory that its devices hold, and otherwise the first thing that keeps it from being one, on one line. Where
-/// memory is refused nothing was written.
+/// Writes the findings in a platform file, and returns whether it is a platform: if it is, a warning for each
+/// DMA-capable device that its devices contain, otherwise the first reason why it is not, on one line. If an allocation
+/// fails, nothing was written.
 pub fn lint_platform<W: Sink>(
     alloc: Global,
     name: &str,

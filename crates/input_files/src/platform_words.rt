@@ -1,29 +1,29 @@
-//! The line that says what a platform file breaks.
+//! Words of the line on a breach.
 
 use crate::breach::{Breach, PlacedRange, TomlPath};
 use platforms::PlatformFault;
 use std::alloc::AllocError;
 use text_lines::{push, push_address, push_number};
 
-/// What is asked of a range.
+/// The rule on a range.
 const PAGES: &str =
     "base and size are multiples of 4096, size is above 0, and the end is at most 2^56";
 
-/// What is asked of a permission.
+/// The rule on a permission.
 const PERMS: &str =
     "perm is no permission; write \"none\", \"r\", \"rw\", \"x\", \"rx\" or \"rwx\"";
 
-/// What is asked of the ranges of memory, and of the devices.
+/// The rule on the arrays of memory and devices.
 const ARRAY: &str = " is no array of tables; write its name in double brackets";
 
-/// Appends a name and a number, as `ram 1: `.
+/// Appends a name and a number, such as `ram 1: `.
 fn push_numbered(text: &mut Vec<u8>, name: &str, number: u64) -> Result<(), AllocError> {
     push(text, name)?;
     push_number(text, number)?;
     push(text, ": ")
 }
 
-/// Appends the table that is spoken of: nothing for the file's own.
+/// Appends the name of a table, or nothing for the top level.
 pub(crate) fn push_table(text: &mut Vec<u8>, place: TomlPath) -> Result<(), AllocError> {
     match place {
         TomlPath::File => Ok(()),
@@ -33,7 +33,7 @@ pub(crate) fn push_table(text: &mut Vec<u8>, place: TomlPath) -> Result<(), Allo
     }
 }
 
-/// What is said after a key that a table may not have: those that it may have.
+/// Returns the text after an unknown key of a table: the list of its keys.
 fn keys_text(place: TomlPath) -> &'static str {
     match place {
         TomlPath::File => "'; the keys are monitor, ram, device, harts and entries",
@@ -42,7 +42,7 @@ fn keys_text(place: TomlPath) -> &'static str {
     }
 }
 
-/// What is said of a value that is no table.
+/// Returns the message for a value that is not a table.
 fn table_text(place: TomlPath) -> &'static str {
     match place {
         TomlPath::File | TomlPath::Monitor | TomlPath::Ram(_) =>
@@ -51,7 +51,7 @@ fn table_text(place: TomlPath) -> &'static str {
     }
 }
 
-/// What a rule on platforms asks.
+/// Returns the message for a broken rule on platforms.
 fn rule_text(fault: PlatformFault) -> &'static str {
     match fault {
         PlatformFault::BadRange => "a range is not of whole pages below 2^56",
@@ -64,13 +64,13 @@ fn rule_text(fault: PlatformFault) -> &'static str {
     }
 }
 
-/// Appends the table that is spoken of, and what is said of it.
+/// Appends the name of a table and a message.
 fn push_said(text: &mut Vec<u8>, place: TomlPath, said: &str) -> Result<(), AllocError> {
     push_table(text, place)?;
     push(text, said)
 }
 
-/// Appends the table that is spoken of, and what is said of one of its keys.
+/// Appends the name of a table and a message about one of its keys.
 fn push_about(
     text: &mut Vec<u8>,
     place: TomlPath,
@@ -104,7 +104,7 @@ fn push_overlap(
     push_range(text, other)
 }
 
-/// Appends what a platform file breaks.
+/// Appends the message for a breach.
 pub(crate) fn push_breach(text: &mut Vec<u8>, breach: Breach<'_>) -> Result<(), AllocError> {
     match breach {
         Breach::Unknown(place, key) => {

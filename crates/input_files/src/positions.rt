@@ -1,4 +1,4 @@
-//! Where in the text of a platform file something is, by its line and its column.
+//! Positions in the text of a platform file, by line and column.
 
 ghost use Rattle.std.specs.Prelude.{◌≡◌, ◌≤◌, IfSome, length};
 ghost use Rattle.input_files.specs.Positions.{position_after};
@@ -6,7 +6,7 @@ ghost use Rattle.input_files.specs.Positions.{position_after};
 use std::alloc::AllocError;
 use text_lines::{push, push_number};
 
-/// The line and the column after some bytes, both counted from 1. A column counts bytes.
+/// Returns the line and the column after some bytes, both counted from 1. A column counts bytes.
 fn position_after(before: &[u8]) -> (u64, u64)
     ensures { result ≡ position_after before.now 1 1 }
 {
@@ -23,7 +23,7 @@ fn position_after(before: &[u8]) -> (u64, u64)
     (line, column)
 }
 
-/// Appends the line and the column after that many bytes of a text, as `:3:1: `.
+/// Appends the line and the column after `at` bytes of a text, such as `:3:1: `.
 pub(crate) fn push_position(line: &mut Vec<u8>, text: &str, at: usize) -> Result<(), AllocError>
     requires { at ≤ length text.now }
 {
@@ -35,7 +35,7 @@ pub(crate) fn push_position(line: &mut Vec<u8>, text: &str, at: usize) -> Result
     push(line, ": ")
 }
 
-/// Appends the line and the column after that many bytes of a text, and `: ` where there is nothing to show.
+/// Appends the line and the column after some bytes of a text, or `: ` if the position is unknown.
 pub(crate) fn push_found(
     line: &mut Vec<u8>,
     text: &str,

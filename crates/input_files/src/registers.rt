@@ -2,7 +2,7 @@
 
 use text_lines::{is_text, numeral};
 
-/// The register that a letter and a number mean, as `a0`.
+/// Returns the register for a letter and a number, such as `a0`.
 fn numbered_register(letter: u8, n: u64) -> Option<u64> {
     if (letter == b'x' || letter == b'X') && n < 32 {
         return Some(n);
@@ -25,7 +25,7 @@ fn numbered_register(letter: u8, n: u64) -> Option<u64> {
     None
 }
 
-/// The register that has a name without a number.
+/// Returns the register with a name without a number.
 fn named_register(word: &[u8]) -> Option<u64> {
     if is_text(word, b"zero") {
         return Some(0);
@@ -48,7 +48,7 @@ fn named_register(word: &[u8]) -> Option<u64> {
     None
 }
 
-/// The register that a word means: by its name in the ABI, or not written as it should be.
+/// Returns the register that a word means: by its ABI name, or misspelt.
 pub(crate) fn meant_register(word: &[u8]) -> Option<u64> {
     let [letter, digits @ ..] = word else {
         return None;

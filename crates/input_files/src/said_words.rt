@@ -1,21 +1,22 @@
-//! Words of findings that maps, traces and platforms share.
+//! Words that the findings on maps, traces and platforms share.
 
 ghost use Rattle.std.specs.Prelude.{◌≤◌, length};
 
+use crate::meant_numbers::meant_number;
 use std::alloc::AllocError;
-use text_lines::{push, push_number};
+use text_lines::{push, push_address, push_number};
 
-/// How many bytes of a word are quoted.
+/// Maximum number of bytes of a word to quote.
 const QUOTED: usize = 32;
 
-/// The first bytes of a word.
+/// Returns the first bytes of a word.
 fn beginning(word: &[u8]) -> &[u8]
     requires { 32 ≤ length word.now }
 {
     &word[..QUOTED]
 }
 
-/// Appends a word in quotes: its beginning, where it is long.
+/// Appends a word in quotes, truncated if it is long.
 pub(crate) fn push_quoted(text: &mut Vec<u8>, word: &[u8]) -> Result<(), AllocError> {
     if word.len() > QUOTED {
         push(text, "'")?;
@@ -41,7 +42,7 @@ pub(crate) fn push_column(text: &mut Vec<u8>, before: usize) -> Result<(), Alloc
     push(text, ": ")
 }
 
-/// What is wrong with a text whose first byte may not occur outside a comment.
+/// Returns the fault of a text whose first byte may not occur outside a comment.
 pub(crate) fn byte_fault(text: &[u8]) -> &'static str {
     match text {
         [b'\r', ..] => "a CR that no LF follows; end lines with LF",
@@ -54,12 +55,12 @@ pub(crate) fn byte_fault(text: &[u8]) -> &'static str {
     }
 }
 
-/// Whether a word begins as comments do in other languages: with `/` or `;`.
+/// Returns whether a word begins like a comment in other languages, with `/` or `;`.
 pub(crate) fn begins_comment(word: &[u8]) -> bool {
     matches!(word, [b'/' | b';', ..])
 }
 
-/// Whether a word has the form of a number, however large.
+/// Returns whether a word has the form of a number of any size.
 fn looks_like_number(word: &[u8]) -> bool {
     match word {
         [] | [b'0', b'x' | b'X'] => false,
@@ -68,11 +69,19 @@ fn looks_like_number(word: &[u8]) -> bool {
     }
 }
 
-/// What is wrong with a word that is no number.
-pub(crate) fn no_number(word: &[u8]) -> &'static str {
+/// Appends the fault of a word that is not a number, and the number that it seems to mean.
+pub(crate) fn push_no_number(text: &mut Vec<u8>, word: &[u8]) -> Result<(), AllocError> {
     if looks_like_number(word) {
-        " is too large; numbers are below 2^64"
-    } else {
-        " is no number; write decimal digits, or 0x and hexadecimal digits"
+        return push(text, " is too large; numbers are below 2^64");
+    }
+    match meant_number(word) {
+        Some(value) => {
+            push(text, " is no number; write ")?;
+            push_address(text, value)
+        }
+        None => push(
+            text,
+            " is no number; write decimal digits, or 0x and hexadecimal digits",
+        ),
     }
 }

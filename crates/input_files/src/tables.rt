@@ -1,4 +1,4 @@
-//! The readers of a document's tables: each returns a range or a device, or the first breach of its table.
+//! Readers of a document's tables, which return a range or a device, or the first breach of the table.
 
 ghost use Rattle.std.specs.Prelude.{◌≡◌, ◌↔◌, ◌⊎◌, IfErr, IfOk, IsTrue, Some};
 ghost use Rattle.std.specs.List.{All};
@@ -47,7 +47,7 @@ fn read_perm<'a>(table: &'a Table, place: TomlPath) -> Result<Perm, Breach<'a>>
     }
 }
 
-/// Whether a base and a size are whole pages, at least one, below 2^56.
+/// Returns whether a base and a size form whole pages, at least one, below 2^56.
 fn is_range(base: u64, size: u64) -> bool
     ensures { IsTrue result ↔ IsRange (base, size) }
 {

@@ -1,4 +1,4 @@
-//! What takes the lines of a trace, and why it does not take one.
+//! The commands that read a trace, and the reasons why they reject a line.
 
 ghost use Rattle.std.specs.Prelude.{◌≡◌, IfSome, None, Some, false, true};
 ghost use Rattle.hart_trace.specs.Faults.{told};
@@ -7,23 +7,23 @@ ghost use Rattle.input_files.specs.Traces.{fault_of, is_taken};
 use hart_trace::{LineFault, Reason, read_access, read_line};
 use text_lines::{LONGEST, without_return};
 
-/// What takes the lines of a trace.
+/// A command that reads the lines of a trace.
 #[derive(Clone, Copy)]
 pub enum Taker {
     /// `run`, on this many harts.
     Run {
-        /// How many.
+        /// The number of harts.
         harts: u8,
     },
-    /// `judge`, which has no harts and takes accesses alone.
+    /// `judge`, which has no harts and accepts only accesses.
     Judge,
 }
 
-/// How many harts there are at most.
+/// Maximum number of harts.
 const MOST_HARTS: u8 = 4;
 
 impl Taker {
-    /// How many harts a line may speak of.
+    /// Returns the number of harts that a line may name.
     pub(crate) fn harts(self) -> u8 {
         match self {
             Taker::Run { harts } => harts,
@@ -32,7 +32,7 @@ impl Taker {
     }
 }
 
-/// What is wrong with a line that comes without its LF, where it is not taken.
+/// Returns the fault of a line without its LF, or `None` if it is accepted.
 pub(crate) fn fault_of<'a>(taker: Taker, raw: &'a [u8]) -> Option<LineFault<'a>>
     ensures fault { IfSome result (λ fault. fault_of taker raw.now ≡ Some (told fault)) }
     ensures untaken { IfSome result (λ _. is_taken taker raw.now ≡ false) }

@@ -1,27 +1,28 @@
 //! The lint of a trace.
 
-ghost use Rattle.std.specs.Prelude.{◌≡◌, ◌==◌, ◌-◌, ◌^◌, ◌<◌, Err, IfOk, Ok, ℕ, List, false, length, map, true};
+ghost use Rattle.std.specs.Prelude.{◌≡◌, ◌==◌, ◌-◌, ◌^◌, ◌<◌, Err, IfOk, ℕ, List, length, map};
 ghost use Rattle.text_lines.specs.Writings.{writing, Breaks, TakesAll};
 ghost use Rattle.input_files.specs.declared.lint_fault.LintFault as LintFault;
 ghost use Rattle.input_files.specs.Traces.{findings_in, is_trace, told_at};
 
 use crate::LintFault;
 use crate::taker::{Taker, fault_of};
+use crate::trace_warnings::trace_warnings;
 use crate::trace_words::push_line_fault;
 use hart_trace::LineFault;
 use std::alloc::{AllocError, Global};
 use text_lines::{Sink, split_line, write_whole};
 
-/// A line that is not taken, and why.
+/// A rejected line, and the fault.
 #[derive(Clone, Copy)]
 pub struct TraceFinding<'a> {
-    /// Its number, from 1.
+    /// The number of the line, from 1.
     pub line: u64,
-    /// What is wrong with it.
+    /// The fault.
     pub fault: LineFault<'a>,
 }
 
-/// The lines of a file that are not taken.
+/// Returns the rejected lines of a file.
 pub fn trace_findings<'a>(
     alloc: Global,
     bytes: &'a [u8],
@@ -47,7 +48,7 @@ pub fn trace_findings<'a>(
     Ok(findings)
 }
 
-/// Appends the line for a line that is not taken: its place, what is wrong there, and what would fix it.
+/// Appends the message for a rejected line, with its place, the fault and a correction.
 pub fn push_trace_finding(
     text: &mut Vec<u8>,
     name: &str,
@@ -57,13 +58,17 @@ pub fn push_trace_finding(
     push_line_fault(text, name, taker.harts(), finding.line, finding.fault)
 }
 
-/// The lines for findings.
+/// Returns the messages for findings, or warnings if there are none.
 fn lines_of(
     alloc: Global,
     name: &str,
+    bytes: &[u8],
     taker: Taker,
     findings: &[TraceFinding<'_>],
 ) -> Result<Vec<u8>, AllocError> {
+    if findings.is_empty() {
+        return trace_warnings(alloc, name, bytes);
+    }
     let mut text = Vec::new(alloc);
     for finding in findings {
         push_trace_finding(&mut text, name, taker, finding)?;
@@ -71,8 +76,8 @@ fn lines_of(
     Ok(text)
 }
 
-/// Writes a line for each line of a file that is not taken, and nothing where each is. The answer is whether each is. Where memory
-/// is refused nothing was written.
+/// Writes a message for each rejected line of a file, or warnings. Returns whether all lines are accepted. If an allocation fails,
+/// nothing was written.
 pub fn lint_trace<W: Sink>(
     alloc: Global,
     name: &str,
@@ -82,24 +87,20 @@ pub fn lint_trace<W: Sink>(
 ) -> Result<bool, LintFault>
     requires { length bytes.now < 2 ^ 64 - 1 }
     ensures trace { IfOk result (λ answer. answer ≡ is_trace taker bytes.now) }
-    ensures silent { result ≡ Ok true → out.new ≡ out.old }
-    ensures written { result ≡ Ok false → (text : List ℕ)
-        × TakesAll text (writing W.contents W.failures W.stalls out.old out.new) }
+    ensures written { IfOk result (λ _. (text : List ℕ)
+        × TakesAll text (writing W.contents W.failures W.stalls out.old out.new)) }
     ensures untouched { result ≡ Err LintFault.Memory → out.new ≡ out.old }
-    ensures broken { result ≡ Err LintFault.Device → (is_trace taker bytes.now ≡ false)
-        × (text : List ℕ) × Breaks text (writing W.contents W.failures W.stalls out.old out.new) }
+    ensures broken { result ≡ Err LintFault.Device → (text : List ℕ)
+        × Breaks text (writing W.contents W.failures W.stalls out.old out.new) }
 {
     let Ok(findings) = trace_findings(alloc, bytes, taker) else {
         return Err(LintFault::Memory);
     };
-    if findings.is_empty() {
-        return Ok(true);
-    }
-    let Ok(text) = lines_of(alloc, name, taker, findings.as_slice()) else {
+    let Ok(text) = lines_of(alloc, name, bytes, taker, findings.as_slice()) else {
         return Err(LintFault::Memory);
     };
     let Ok(()) = write_whole(out, text.as_slice()) else {
         return Err(LintFault::Device);
     };
-    Ok(false)
+    Ok(findings.is_empty())
 }

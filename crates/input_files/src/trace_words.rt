@@ -1,16 +1,16 @@
-//! What is said of a line at fault, and what would fix it.
+//! Messages for invalid lines of a trace, with corrections.
 
 use crate::keywords::{keyword, near_kind};
 use crate::registers::meant_register;
 use crate::said_words::{
-    begins_comment, byte_fault, no_number, push_column, push_place, push_quoted,
+    begins_comment, byte_fault, push_column, push_no_number, push_place, push_quoted,
 };
 use hart_trace::{EventKind, LineFault, Reason, Slot};
 use pmp_match::Kind;
 use std::alloc::AllocError;
 use text_lines::{is_text, number, push, push_number};
 
-/// The form of an event.
+/// Returns the form of an event.
 fn form_text(kind: EventKind) -> &'static str {
     match kind {
         EventKind::Fetch => "fetch M SIZE ADDR",
@@ -22,7 +22,7 @@ fn form_text(kind: EventKind) -> &'static str {
     }
 }
 
-/// What a word of an event is called.
+/// Returns the name of a word of an event.
 fn slot_name(slot: Slot) -> &'static str {
     match slot {
         Slot::Mode => "M",
@@ -34,7 +34,7 @@ fn slot_name(slot: Slot) -> &'static str {
     }
 }
 
-/// What is said of a number that is no size of an access.
+/// Returns the message for a number that is not the size of an access.
 fn no_size(kind: Kind) -> &'static str {
     match kind {
         Kind::Fetch => " is no size of a fetch; write 2 or 4",
@@ -43,15 +43,15 @@ fn no_size(kind: Kind) -> &'static str {
     }
 }
 
-/// What is said of a word that is no size of an access.
-fn size_fault(kind: Kind, word: &[u8]) -> &'static str {
+/// Appends the message for a word that is not the size of an access.
+fn push_size_fault(text: &mut Vec<u8>, kind: Kind, word: &[u8]) -> Result<(), AllocError> {
     match number(word) {
-        None => no_number(word),
-        Some(_) => no_size(kind),
+        None => push_no_number(text, word),
+        Some(_) => push(text, no_size(kind)),
     }
 }
 
-/// What is said of a word that is no mode.
+/// Returns the message for a word that is not a mode.
 fn mode_fault(word: &[u8]) -> &'static str {
     if is_text(word, b"m") {
         " is machine mode; write s or u"
@@ -60,14 +60,14 @@ fn mode_fault(word: &[u8]) -> &'static str {
     }
 }
 
-/// Appends which register a word means.
+/// Appends the register that a word means.
 fn push_meant(text: &mut Vec<u8>, n: u64) -> Result<(), AllocError> {
     push(text, " is not written so; write x")?;
     push_number(text, n)?;
     Ok(())
 }
 
-/// Appends what is wrong with a word that is no register.
+/// Appends the message for a word that is not a register.
 fn push_register(text: &mut Vec<u8>, word: &[u8]) -> Result<(), AllocError> {
     match meant_register(word) {
         None => push(text, " is no register; write x0 to x31"),
@@ -75,29 +75,29 @@ fn push_register(text: &mut Vec<u8>, word: &[u8]) -> Result<(), AllocError> {
     }
 }
 
-/// Appends what is wrong with a word that is not what should be there.
+/// Appends the message for an invalid word.
 fn push_misfit(text: &mut Vec<u8>, slot: Slot, word: &[u8]) -> Result<(), AllocError> {
     match slot {
         Slot::Mode => push(text, mode_fault(word)),
-        Slot::Size(kind) => push(text, size_fault(kind, word)),
-        Slot::Address | Slot::Value | Slot::Argument => push(text, no_number(word)),
+        Slot::Size(kind) => push_size_fault(text, kind, word),
+        Slot::Address | Slot::Value | Slot::Argument => push_no_number(text, word),
         Slot::Register => push_register(text, word),
     }
 }
 
-/// Whether a word is `@` and a digit.
+/// Returns whether a word is `@` and a digit.
 fn is_at_digit(word: &[u8]) -> bool {
     matches!(word, [b'@', b'0'..=b'9'])
 }
 
-/// Appends how many harts there are.
+/// Appends the number of harts.
 fn push_none_of(text: &mut Vec<u8>, harts: u8) -> Result<(), AllocError> {
     push(text, " is none of the harts; H is below ")?;
     push_number(text, u64::from(harts))?;
     Ok(())
 }
 
-/// Appends what is wrong with a word that names no hart.
+/// Appends the message for a word that does not name a hart.
 fn push_hart(text: &mut Vec<u8>, harts: u8, word: &[u8]) -> Result<(), AllocError> {
     if is_at_digit(word) {
         return push_none_of(text, harts);
@@ -105,7 +105,7 @@ fn push_hart(text: &mut Vec<u8>, harts: u8, word: &[u8]) -> Result<(), AllocErro
     push(text, " names no hart; write @ and one digit")
 }
 
-/// Appends what is said of a word that begins no event, by the one that is near.
+/// Appends the message for a word that does not begin an event, with the similar event if there is one.
 fn push_unknown(text: &mut Vec<u8>, word: &[u8]) -> Result<(), AllocError> {
     match near_kind(word) {
         None => push(
@@ -119,7 +119,7 @@ fn push_unknown(text: &mut Vec<u8>, word: &[u8]) -> Result<(), AllocError> {
     }
 }
 
-/// Appends what is wrong with a word that begins no event.
+/// Appends the message for a word that does not begin an event.
 fn push_no_event(text: &mut Vec<u8>, word: &[u8]) -> Result<(), AllocError> {
     if begins_comment(word) {
         return push(text, " is no event; a comment begins with #");
@@ -127,7 +127,7 @@ fn push_no_event(text: &mut Vec<u8>, word: &[u8]) -> Result<(), AllocError> {
     push_unknown(text, word)
 }
 
-/// What is said of a word that an event has no longer.
+/// Returns the message for a superfluous word of an event.
 fn extra_fault(kind: EventKind) -> &'static str {
     match kind {
         EventKind::Fetch => " is too much; a fetch ends with ADDR, and a comment begins with #",
@@ -139,7 +139,7 @@ fn extra_fault(kind: EventKind) -> &'static str {
     }
 }
 
-/// Appends what is called so, a word of an event, and what is wrong with it.
+/// Appends the name of an event's word, and the message for it.
 fn push_named(text: &mut Vec<u8>, slot: Slot, word: &[u8]) -> Result<(), AllocError> {
     push(text, slot_name(slot))?;
     push(text, " ")?;
@@ -147,7 +147,7 @@ fn push_named(text: &mut Vec<u8>, slot: Slot, word: &[u8]) -> Result<(), AllocEr
     push_misfit(text, slot, word)
 }
 
-/// Appends which word of an event is wanting, and the event's form.
+/// Appends the missing word of an event, and the event's form.
 fn push_missing(text: &mut Vec<u8>, kind: EventKind, slot: Slot) -> Result<(), AllocError> {
     push(text, slot_name(slot))?;
     push(text, " is wanting; write ")?;
@@ -155,7 +155,7 @@ fn push_missing(text: &mut Vec<u8>, kind: EventKind, slot: Slot) -> Result<(), A
     Ok(())
 }
 
-/// Appends what is said of a line, of `harts` harts.
+/// Appends the message for a line, on `harts` harts.
 fn push_reason(
     text: &mut Vec<u8>,
     harts: u8,
@@ -195,7 +195,7 @@ fn push_reason(
     }
 }
 
-/// Appends the line for a line at fault, of `harts` harts.
+/// Appends the whole message for an invalid line, on `harts` harts.
 pub(crate) fn push_line_fault(
     text: &mut Vec<u8>,
     name: &str,

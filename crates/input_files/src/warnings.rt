@@ -1,4 +1,4 @@
-//! The warnings of a platform file: the masters of memory that its devices hold.
+//! The warnings about a platform file: DMA-capable devices that its devices contain.
 
 use crate::breach::TomlPath;
 use crate::held_masters::{HeldMaster, held_masters};
@@ -11,7 +11,7 @@ use std::alloc::{AllocError, Global};
 use text_lines::{push, push_address};
 
 /// Appends what a board has in which pages.
-fn push_master(text: &mut Vec<u8>, master: Master) -> Result<(), AllocError> {
+pub(crate) fn push_master(text: &mut Vec<u8>, master: Master) -> Result<(), AllocError> {
     push(text, "on ")?;
     push(text, master.board.name())?;
     push(text, " it has ")?;
@@ -22,7 +22,7 @@ fn push_master(text: &mut Vec<u8>, master: Master) -> Result<(), AllocError> {
     push_address(text, master.last)
 }
 
-/// Appends the line on a master that a device of this file holds.
+/// Appends the warning about a DMA-capable device that a device of this file contains.
 fn push_warning(
     said: &mut Vec<u8>,
     name: &str,
@@ -41,7 +41,7 @@ fn push_warning(
     )
 }
 
-/// A line for each master of memory that the devices of a platform hold.
+/// Returns a warning for each DMA-capable device that the devices of a platform contain.
 pub(crate) fn warnings(
     alloc: Global,
     name: &str,

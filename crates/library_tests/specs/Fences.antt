@@ -1,5 +1,4 @@
--- What is known of an enclave that another hart's fence interrupts, and of a hart that serves that
--- trap otherwise.
+-- An enclave that another hart's fence interrupts, and a hart that serves that trap differently.
 use Rattle.std.specs.Prelude.{◌≡◌, ◌≢◌, ℕ, ◌==◌, if◌then◌else◌, List}
 use Rattle.sbi_decode.specs.Runners.{EnclaveOf}
 use Rattle.sbi_decode.specs.declared.world.World.TheVariants.{Enclave as InEnclave}
@@ -12,9 +11,9 @@ use Rattle.board.specs.Board.{Board, BoardEvent, BoardRun, DoesAside, DoesTrap, 
 use Rattle.board.specs.Board.{Resumption, gone_on}
 use Rattle.board.specs.Held.{CanConfine}
 
--- an enclave runs on a hart, which serves a trap without the loop: another hart asks for a fence,
--- say. Then the hart traps for the loop. If the enclave did not exit in that trap, it is left with
--- the registers that it had before the fence
+-- an enclave runs on a hart that serves a trap without the loop, such as another hart's request for
+-- a fence; then the hart traps into the loop. Unless the enclave exits in that trap, it keeps the
+-- registers that it had before the fence
 abbrev pub FenceKeepsEnclave : Type 0
 FenceKeepsEnclave =
     (layout : PlatformLayout) (opened : List ℕ) (events : List BoardEvent) (old mid new : Board)
@@ -26,14 +25,14 @@ FenceKeepsEnclave =
     → (HasExited mid.monitor new.monitor id → ⊥)
     → AreThose trap.event (old.running trap.hart) (new.monitor.registers (EnclaveOf id))
 
--- a hart serves a trap like that, but in any world
+-- a hart serves such a trap in any world
 pub record ServesAnyhow (old : Board) (hart : ℕ) (on : Resumption) (new : Board) : Type 0 where
   pub up : IsUp old hart
   pub state : new ≡ record old {
     running = λ h. if h == hart then gone_on on (old.running h) else old.running h;
   }
 
--- then an enclave can lose its registers: wherever one runs
+-- then any running enclave can lose its registers
 abbrev pub LosesRegisters : Type 0
 LosesRegisters =
     (old : Board) (hart id : ℕ) → IsUp old hart → old.monitor.worlds hart ≡ InEnclave id

@@ -1,3 +1,4 @@
+pub mod Duties
 pub mod Fences
 pub mod Harts
 pub mod Life

@@ -8,8 +8,8 @@ use Rattle.hart_trace.specs.declared.event.Event.TheVariants.{Ecall, Irq}
 abbrev pub Words : Type 0
 Words = ArrayVec ℕ 8 (Unit {0})
 
--- the first hart creates and runs it, the timer stops it there, the second one resumes it, it
--- leaves there, and the first one destroys it
+-- the first hart creates and runs it, the timer stops it there, the second one resumes it, it exits
+-- there, and the first one destroys it
 abbrev pub life_of : Words → Words → Words → Words → Words → List (ℕ × Event)
 life_of create enter resume leave destroy =
     (0, Ecall create) ∷ ((0, Ecall enter)

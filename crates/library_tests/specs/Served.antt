@@ -1,4 +1,4 @@
--- What is known after traps were served, and of a board on which an enclave is destroyed.
+-- The state after traps were served, and of a board on which an enclave is destroyed.
 use Rattle.std.specs.Prelude.{◌≡◌, ◌≢◌, ℕ, ◌/◌, ◌<◌, true, false, List, [], Option, Result, Err}
 use Rattle.pmp_match.specs.declared.access.Access.{Access}
 use Rattle.pmp_match.specs.declared.cause.Cause.{Cause}
@@ -15,7 +15,7 @@ use Rattle.trap_server.specs.declared.trap.Trap.{Trap}
 use Rattle.board.specs.Board.{Board, BoardEvent, BoardRun, DoesAccess, DoesTrap}
 use Rattle.board.specs.Held.{CanConfine}
 
--- the firmware's theorem holds of a run; so each hart that is in the host's world at its end has
+-- the firmware's theorem applies to a run; so each hart that is in the host's world at its end has
 -- loaded the fewest entries of the host's view
 abbrev pub IsKnown : {before after held holds : Option (List ℕ)}
     → Ran before after held holds [] [] → Type 0
@@ -25,9 +25,9 @@ IsKnown run =
     → HasFewest (loaded_last run.opened run.served hart) run.layout.limit
     (host_view run.state.table))
 
--- an enclave is live on one board, and is no more on the next. On the first, an access of its
--- private bytes by any other world is a fault; on the second they are zero, and each hart that is
--- not parked has loaded the fewest entries of its world's view
+-- an enclave is live on one board and gone on the next. On the first, an access of its private
+-- bytes by any other world is a fault; on the second they are zero, and each hart that is not
+-- parked has loaded the fewest entries of its world's view
 pub record IsWiped (layout : PlatformLayout) (old new : Board) (id : ℕ)
     (gone : IsGone old.monitor new.monitor id) : Type 0 where
   pub closed : (hart : ℕ) (a : Access) (value : ℕ) (said : Result (Unit {0}) Cause)
@@ -39,7 +39,7 @@ pub record IsWiped (layout : PlatformLayout) (old new : Board) (id : ℕ)
       → HasFewest (new.loaded hart) layout.limit
       (current_view new.monitor.table (new.monitor.worlds hart))
 
--- so it is where a trap destroys an enclave on a board, after any events
+-- this holds when a trap destroys an enclave on a board, after any events
 abbrev pub WipesDestroyed : Type 0
 WipesDestroyed =
     (layout : PlatformLayout) (opened : List ℕ) (events : List BoardEvent) (old : Board)

@@ -8,14 +8,14 @@ use Rattle.pmp_match.specs.declared.access.Mode.TheVariants.{Machine}
 use Rattle.board.specs.Board.{Board, DoesAccess, HasEntries}
 use Rattle.board.specs.Headline.{IsMonitorByte}
 
--- a parked hart is started with whichever list it has
+-- a parked hart is started with whatever list it has
 pub record StartsAnyhow (old : Board) (hart : ℕ) (new : Board) : Type 0 where
   pub known : hart < old.monitor.table.layout.harts
   pub was_parked : old.parked hart ≡ true
   pub state : new ≡ record old { parked = λ h. if h == hart then false else old.parked h }
 
--- then its world can access the monitor's pages, if the list that it has allows that: no premise
--- says which list a parked hart has
+-- then its world can access the monitor's pages if its list allows that, and no premise restricts
+-- the list of a parked hart
 abbrev pub OpensMonitor : Type 0
 OpensMonitor =
     (old : Board) (hart byte value : ℕ) (a : Access) (entries : List Entry)

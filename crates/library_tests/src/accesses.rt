@@ -5,10 +5,10 @@ use pmp_match::{Access, Cause, Kind, Mode, Segments, judge};
 use std::alloc::Global;
 use std::process::Abort;
 
-/// An entry: where its block begins, the size of the block as a power of two, and the permission.
+/// An entry: the base of its block, the size of the block as a power of two, and the permission.
 type Block = (u64, u32, Perm);
 
-/// The bank that has these entries.
+/// Returns the bank with these entries.
 fn bank_of(rt: &impl Abort, alloc: Global, blocks: &[Block], limit: Limit) -> Bank {
     let mut entries = Vec::new(alloc);
     for (base, log2, perm) in blocks {
@@ -23,15 +23,15 @@ fn bank_of(rt: &impl Abort, alloc: Global, blocks: &[Block], limit: Limit) -> Ba
     Bank::of(entries.as_slice(), limit)
 }
 
-/// The bank of the entries has this first configuration word.
+/// Asserts the first configuration word of the entries' bank.
 fn configures(rt: &impl Abort, alloc: Global, blocks: &[Block], word: u64) {
     assert!(rt; bank_of(rt, alloc, blocks, Limit::Sixteen).cfg0() == word);
 }
 
-/// A load: the mode, the size, the address, and what it comes to.
+/// A load: the mode, the size, the address, and the outcome.
 type Load = (Mode, u8, u64, Result<(), Cause>);
 
-/// Loads under the bank of the entries come to these.
+/// Asserts the outcomes of loads under the entries' bank.
 fn loads(rt: &impl Abort, alloc: Global, blocks: &[Block], limit: Limit, rows: &[Load]) {
     let bank = bank_of(rt, alloc, blocks, limit);
     for (mode, size, addr, wanted) in rows {
@@ -43,7 +43,7 @@ fn loads(rt: &impl Abort, alloc: Global, blocks: &[Block], limit: Limit, rows: &
     }
 }
 
-/// Loads by a user, judged by the list of the entries' bank, come to these.
+/// Asserts the outcomes of loads in user mode, judged by the list of the entries' bank.
 fn list_loads(
     rt: &impl Abort,
     alloc: Global,
@@ -120,7 +120,7 @@ const WITHOUT_A_MATCH: &[Load] = &[
     (Mode::User, 8, 0x8000_0000, Err(Cause::LoadFault)),
 ];
 
-/// Accesses of two bytes by a user fault with the causes of these numbers where no entry matches.
+/// Asserts the numbers of the causes with which two-byte accesses in user mode fault if no entry matches.
 fn fault(rt: &impl Abort, rows: &[(Kind, u64, u8)]) {
     let bank = Bank::of([].as_slice(), Limit::Sixteen);
     for (kind, addr, number) in rows {
@@ -147,7 +147,7 @@ fn causes_of_each_kind(rt: HostRuntime) {
     );
 }
 
-/// Stores of these sizes have their four parts.
+/// Asserts the four parts of stores of these sizes.
 fn have_their_parts(rt: &impl Abort, sizes: &[u8]) {
     for size in sizes {
         let store = Access::new(Mode::User, Kind::Store, *size, 0x1000).expect(rt, "a size");
@@ -156,7 +156,7 @@ fn have_their_parts(rt: &impl Abort, sizes: &[u8]) {
     }
 }
 
-/// No access of the kind has these sizes.
+/// Asserts that no access of the kind has any of these sizes.
 fn are_no_sizes(rt: &impl Abort, kind: Kind, sizes: &[u8]) {
     for size in sizes {
         assert!(rt;
@@ -173,7 +173,7 @@ fn sizes_of_each_kind(rt: HostRuntime) {
     are_no_sizes(&rt, Kind::Fetch, &[1, 8]);
 }
 
-/// The entries of a boot: a device, the monitor, memory.
+/// The entries at boot: a device, the monitor, memory.
 const BOOT: &[Block] = &[
     (0x1000_0000, 12, Perm::ReadWrite),
     (0x8000_0000, 21, Perm::NoAccess),
@@ -189,7 +189,7 @@ const AT_BOOT: &[Load] = &[
     (Mode::User, 8, 0x8800_0000, Err(Cause::LoadFault)),
 ];
 
-/// Entries, the hart's limit, and what loads come to under them.
+/// Entries, the hart's limit, and the outcomes of loads under them.
 type Judged = (&'static [Block], Limit, &'static [Load]);
 
 const JUDGED: &[Judged] = &[

@@ -1,4 +1,4 @@
-//! Registers, and the calls that they name.
+//! Registers, and the calls that they encode.
 
 use sbi_decode::{Call, EXTENSION_ID, NotSupported, Registers, decode};
 use std::process::Abort;
@@ -9,7 +9,7 @@ const A6: usize = 16;
 
 const A7: usize = 17;
 
-/// The registers of a call with these words in a7 and a6, and with 11, 12, 13, 14, 15, 16 in a0 to a5.
+/// Returns the registers of a call with these words in a7 and a6, and with 11, 12, 13, 14, 15, 16 in a0 to a5.
 fn registers_of(extension: u64, function: u64) -> Registers {
     let mut registers = Registers::new();
     registers.set(A7, extension);
@@ -20,10 +20,10 @@ fn registers_of(extension: u64, function: u64) -> Registers {
     registers
 }
 
-/// An extension, its function, and the call that they are.
+/// An extension, its function, and the call that they encode.
 type Row = (u64, u64, Result<Call, NotSupported>);
 
-/// Each extension with its function is that call, or none.
+/// Asserts the call of each extension and function.
 fn all_are(rt: &impl Abort, rows: &[Row]) {
     for (extension, function, wanted) in rows {
         let found = decode(&registers_of(*extension, *function));

@@ -1,10 +1,10 @@
-//! The reader of certificates, part by part.
+//! Reads certificates part by part.
 
 use certificate_format::{Header, ReadFault, Reader, Tag, Version};
 use pmp_encoding::{Limit, Perm};
 use std::process::Abort;
 
-/// The lower half of the space with every right, in one entry.
+/// A certificate of the lower half of the space with all permissions, in one entry.
 pub const LOWER_HALF: [u8; 47] = [
     0x50, 0x4D, 0x50, 0x43, 1, 1, 0, 0, 0, // header
     0x1F, 0xFF, 0xFF, 0xFF, 0xFF, 0xFF, 0xFF, 0x0F, 0, // entry
@@ -12,7 +12,7 @@ pub const LOWER_HALF: [u8; 47] = [
     0, 7, 0, 0, // leaves
 ];
 
-/// The header, and how many bytes are left after the root.
+/// Returns the header, and the number of bytes left after the root.
 pub fn read_whole(bytes: &[u8]) -> Result<(Header, usize), ReadFault> {
     let mut reader = Reader::new(bytes);
     let header = reader.header()?;
@@ -40,20 +40,20 @@ fn fault_of(bytes: &[u8]) -> Option<ReadFault> {
     }
 }
 
-/// The reader comes to a header of the first version, with that many entries.
+/// Asserts that the reader returns a header of the first version with that many entries.
 fn reads_header(rt: &impl Abort, reader: &mut Reader, count: u32) {
     let header = reader.header().expect(rt, "a header");
     assert!(rt; header.version == Version::One);
     assert!(rt; (header.version.limit(), header.count) == (Limit::Sixteen, count));
 }
 
-/// The reader comes to an entry that is written as this pair.
+/// Asserts that the reader returns an entry that encodes as this pair.
 pub fn reads_entry(rt: &impl Abort, reader: &mut Reader, cfg: u8, address: u64) {
     let entry = reader.entry().expect(rt, "an entry");
     assert!(rt; (entry.cfg(), entry.address()) == (cfg, address));
 }
 
-/// The reader comes to a split block with these costs, under all permissions in their order.
+/// Asserts that the reader returns a split block with these costs, for all permissions in their order.
 fn reads_costs(rt: &impl Abort, reader: &mut Reader, wanted: [u32; 6]) {
     assert!(rt; reader.tag() == Ok(Tag::Branch));
     let costs = reader.costs().expect(rt, "costs");
@@ -68,7 +68,7 @@ fn reads_costs(rt: &impl Abort, reader: &mut Reader, wanted: [u32; 6]) {
     assert!(rt; all == wanted);
 }
 
-/// The reader comes to a leaf with this permission.
+/// Asserts that the reader returns a leaf with this permission.
 fn reads_leaf(rt: &impl Abort, reader: &mut Reader, wanted: Perm) {
     assert!(rt; reader.tag() == Ok(Tag::Leaf));
     assert!(rt; reader.perm() == Ok(wanted));
@@ -85,7 +85,7 @@ fn lower_half_reads_part_by_part(rt: HostRuntime) {
     assert!(rt; reader.rest().len() == 0);
 }
 
-/// The bytes are at fault so, or not at all.
+/// Asserts the fault of the bytes, if any.
 fn come_to(rt: &impl Abort, bytes: &[u8], wanted: Option<ReadFault>) {
     assert!(rt; fault_of(bytes) == wanted, "{} bytes", bytes.len());
 }
@@ -98,7 +98,7 @@ fn each_cut_of_the_lower_half_is_truncated(rt: HostRuntime) {
     come_to(&rt, &LOWER_HALF, None);
 }
 
-/// The lower half with one byte changed has this fault.
+/// Asserts the fault of the lower half with one byte changed, for each row.
 fn are_told(rt: &impl Abort, rows: &[(usize, u8, ReadFault)]) {
     for (place, byte, fault) in rows {
         let mut bytes = LOWER_HALF;
@@ -139,7 +139,7 @@ fn each_fault_is_told(rt: HostRuntime) {
     assert!(rt; numbers == [1, 2, 3, 4, 5, 16]);
 }
 
-/// The second form of the whole space, with this byte for its limit.
+/// Returns the second form of the whole space, with this limit byte.
 fn second_form(limit: u8) -> [u8; 21] {
     [
         0x50, 0x4D, 0x50, 0x43, 2, limit, 1, 0, 0, 0, 0x1F, 0xFF, 0xFF, 0xFF, 0xFF, 0xFF, 0xFF,
@@ -147,7 +147,7 @@ fn second_form(limit: u8) -> [u8; 21] {
     ]
 }
 
-/// The second form with this byte has this limit, and is read to its end with its entry.
+/// Asserts the limit of the second form with this byte, and that it is read to its end with its entry.
 fn has_limit(rt: &impl Abort, byte: u8, limit: Limit) {
     let bytes = second_form(byte);
     let (header, left) = read_whole(bytes.as_slice()).expect(rt, "a certificate");

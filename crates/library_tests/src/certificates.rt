@@ -1,4 +1,4 @@
-//! Certificates, byte by byte.
+//! Writes certificates, byte by byte.
 
 use crate::certificate_parts::{LOWER_HALF, read_whole, reads_entry};
 use crate::plans::map_of;
@@ -11,20 +11,20 @@ use std::alloc::Global;
 use std::process::Abort;
 use text_lines::fakes::PieceSink;
 
-/// The certificate of a map, by its tree.
+/// Writes the certificate of a map through its tree.
 pub fn by_tree(rt: &impl Abort, alloc: Global, map: &PermissionMap, limit: Limit) -> Vec<u8> {
     let tree = build(alloc, map).expect(rt, "memory");
     let plan = plan(alloc, &tree).expect(rt, "memory");
     write(alloc, &tree, &plan, limit).expect(rt, "memory")
 }
 
-/// The certificate of a map, without a tree.
+/// Writes the certificate of a map without a tree.
 pub fn by_map(rt: &impl Abort, alloc: Global, map: &PermissionMap, limit: Limit) -> Vec<u8> {
     let plan = plan_map(alloc, map).expect(rt, "memory");
     write_map(alloc, map, &plan, limit).expect(rt, "memory")
 }
 
-/// The certificate of a map of one range, of that many pages, by its tree and without it.
+/// Returns the certificate of a map of one range, and asserts that it is the same through the tree and without it.
 fn certificate(
     rt: &impl Abort,
     alloc: Global,
@@ -39,7 +39,7 @@ fn certificate(
     bytes
 }
 
-/// That certificate has these bytes.
+/// Asserts the bytes of that certificate.
 fn has_bytes(rt: &impl Abort, alloc: Global, range: (u64, u64, Perm), limit: Limit, wanted: &[u8]) {
     let (first, count, perm) = range;
     let bytes = certificate(rt, alloc, first, count, perm, limit);
@@ -78,7 +78,7 @@ fn lower_half_has_forty_seven_bytes(rt: HostRuntime) {
     has_bytes(&rt, rt.alloc(), half, Limit::Sixteen, &LOWER_HALF);
 }
 
-/// A certificate has that many bytes, and is read to its end, with that many entries.
+/// Asserts the length of a certificate, and that it is read to its end with that many entries.
 fn is_read(rt: &impl Abort, bytes: &[u8], length: usize, count: u32) {
     assert!(rt; bytes.len() == length);
     let (header, left) = read_whole(bytes).expect(rt, "memory");
@@ -92,14 +92,14 @@ fn one_page_splits_forty_four_blocks(rt: HostRuntime) {
     is_read(&rt, bytes.as_slice(), 1208, 1);
 }
 
-/// The reader comes to a split block, which costs so much where nothing is inherited.
+/// Asserts that the reader returns a split block with this cost if nothing is inherited.
 fn reads_cost(rt: &impl Abort, reader: &mut Reader, wanted: u32) {
     assert!(rt; reader.tag().expect(rt, "memory") == Tag::Branch);
     let costs = reader.costs().expect(rt, "memory");
     assert!(rt; costs.cost(Perm::NoAccess) == wanted);
 }
 
-/// A certificate begins with the two entries of seven pages, and with what they cost.
+/// Asserts that a certificate begins with the two entries of seven pages and their costs.
 fn begins_with_two_entries(rt: &impl Abort, bytes: &[u8]) {
     let mut reader = Reader::new(bytes);
     let header = reader.header().expect(rt, "memory");
@@ -117,7 +117,7 @@ fn seven_pages_take_two_entries(rt: HostRuntime) {
     begins_with_two_entries(&rt, bytes.as_slice());
 }
 
-/// A sink takes the whole certificate of a map, and it is these bytes.
+/// Asserts that a sink receives the whole certificate of a map, which is these bytes.
 fn is_sent(rt: &impl Abort, alloc: Global, map: &PermissionMap, bytes: &[u8]) {
     let plan = plan_map(alloc, map).expect(rt, "memory");
     let mut sink = PieceSink::new(100, None);
@@ -125,7 +125,8 @@ fn is_sent(rt: &impl Abort, alloc: Global, map: &PermissionMap, bytes: &[u8]) {
     assert!(rt; sink.written() == bytes);
 }
 
-/// A sink has taken `wanted` bytes of a map's certificate when its third write fails, which is reported.
+/// Asserts that a sink has received `wanted` bytes of a map's certificate when its third write fails, which is
+/// reported.
 fn is_cut_off(rt: &impl Abort, alloc: Global, map: &PermissionMap, wanted: usize) {
     let plan = plan_map(alloc, map).expect(rt, "memory");
     let mut failing = PieceSink::new(100, Some(3));
@@ -133,7 +134,7 @@ fn is_cut_off(rt: &impl Abort, alloc: Global, map: &PermissionMap, wanted: usize
     assert!(rt; failing.written().len() == wanted);
 }
 
-/// The certificate of the map that is sent is the one that is held.
+/// Asserts that the certificate sent for the map is the one built in memory.
 fn sends_what_it_holds(rt: &impl Abort, alloc: Global, map: &PermissionMap) {
     let bytes = by_map(rt, alloc, map, Limit::SixtyFour);
     is_sent(rt, alloc, map, bytes.as_slice());

@@ -1,4 +1,4 @@
-//! What the check of certificates answers, and why.
+//! The results of checking certificates.
 
 mod orders;
 mod sources;
@@ -11,14 +11,14 @@ use std::alloc::Global;
 use std::process::Abort;
 use std::test::Fail;
 
-/// The whole space with every right, in one entry.
+/// A certificate of the whole space with all permissions, in one entry.
 const WHOLE: [u8; 20] = [
     0x50, 0x4D, 0x50, 0x43, 1, 1, 0, 0, 0, // header
     0x1F, 0xFF, 0xFF, 0xFF, 0xFF, 0xFF, 0xFF, 0x1F, 0, // entry
     0, 7, // leaf
 ];
 
-/// The lower half of the space with every right, in one entry.
+/// A certificate of the lower half of the space with all permissions, in one entry.
 const LOWER_HALF: [u8; 47] = [
     0x50, 0x4D, 0x50, 0x43, 1, 1, 0, 0, 0, // header
     0x1F, 0xFF, 0xFF, 0xFF, 0xFF, 0xFF, 0xFF, 0x0F, 0, // entry
@@ -38,7 +38,7 @@ const LOWER_HALF_SPACE: Range = (0, 1 << 43, Perm::ReadWriteExecute);
 /// Seven pages, the first of eight.
 const SEVEN_PAGES: Range = (0x80208, 7, Perm::ReadExecute);
 
-/// The map with one range.
+/// Returns the map with one range.
 fn map_of(rt: &impl Abort, alloc: Global, range: Range) -> PermissionMap {
     let (first, count, perm) = range;
     let mut map = PermissionMap::new(alloc);
@@ -46,12 +46,12 @@ fn map_of(rt: &impl Abort, alloc: Global, range: Range) -> PermissionMap {
     map
 }
 
-/// The check of these bytes against the map answers so.
+/// Asserts the result of checking these bytes against the map.
 fn answers(rt: &impl Abort, map: &PermissionMap, bytes: &[u8], wanted: Result<u32, CheckRefusal>) {
     assert!(rt; check(map, bytes) == wanted);
 }
 
-/// The check of these bytes against the map with one range answers so.
+/// Asserts the result of checking these bytes against the map with one range.
 fn range_answers(
     rt: &impl Abort,
     alloc: Global,
@@ -63,7 +63,7 @@ fn range_answers(
     answers(rt, &map, bytes, wanted);
 }
 
-/// The number of the refusal, or 0 for a yes.
+/// Returns the number of the refusal, or 0 if the certificate is accepted.
 fn code(map: &PermissionMap, bytes: &[u8]) -> u8 {
     match check(map, bytes) {
         Ok(_) => 0,
@@ -71,7 +71,7 @@ fn code(map: &PermissionMap, bytes: &[u8]) -> u8 {
     }
 }
 
-/// The lower half's certificate with one byte changed is refused with this number.
+/// Asserts that the lower half's certificate with one byte changed is refused with this number.
 fn is_refused_with(rt: &impl Abort, alloc: Global, place: usize, byte: u8, refusal: u8) {
     let mut bytes = LOWER_HALF;
     if let Some(there) = bytes.get_mut(place) {
@@ -166,8 +166,8 @@ fn each_refusal_has_its_place_in_the_lower_half(rt: HostRuntime) {
     range_answers(&rt, rt.alloc(), LOWER_HALF_SPACE, &bytes, too_high);
 }
 
-/// Whether a lesser bound for another permission than none was written: it is sound, and the root's number for none
-/// is as it was.
+/// Returns whether the byte lowers a bound for a permission other than none; such a bound is sound, and the root's
+/// number for none is unchanged.
 fn is_lesser_bound(place: usize, byte: u8) -> bool {
     match place {
         23 | 27 | 31 | 35 => byte < 2,
@@ -176,8 +176,8 @@ fn is_lesser_bound(place: usize, byte: u8) -> bool {
     }
 }
 
-/// The lower half's certificate with one byte changed is right where it says a lesser bound, and is refused otherwise.
-/// The answer is whether it is right.
+/// Returns whether the lower half's certificate with one byte changed is accepted, and asserts that it is iff the byte
+/// lowers such a bound.
 fn is_right(rt: &impl Abort, map: &PermissionMap, place: usize, byte: u8) -> bool {
     let mut bytes = LOWER_HALF;
     if let Some(there) = bytes.get_mut(place) {
@@ -193,7 +193,7 @@ fn is_right(rt: &impl Abort, map: &PermissionMap, place: usize, byte: u8) -> boo
     }
 }
 
-/// How many changes of one byte are right, and how many are refused.
+/// Returns how many changes of one byte are accepted, and how many are refused.
 fn changes_of_one_byte(rt: &impl Abort, map: &PermissionMap) -> (u32, u32) {
     let mut accepted = 0u32;
     let mut refused = 0u32;
@@ -221,7 +221,7 @@ fn of_all_changes_of_one_byte_nine_are_right(rt: HostRuntime) {
     answers(&rt, &map, &second_version, Err(CheckRefusal::BadLimit));
 }
 
-/// A certificate without entries that splits 44 blocks around the first page, and ends there.
+/// Returns a certificate without entries that splits 44 blocks around the first page and ends there.
 fn split_down_to_a_page(alloc: Global) -> Result<Vec<u8>, Fail> {
     let mut bytes = Vec::new(alloc);
     bytes.extend_from_slice(b"PMPC\x01\x00\x00\x00\x00".as_slice())?;

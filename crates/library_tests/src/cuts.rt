@@ -6,7 +6,7 @@ use pmp_encoding::{Entry, Perm, Region, SPACE_SIZE};
 use std::alloc::Global;
 use std::process::Abort;
 
-/// The entry of that block.
+/// Returns the entry of that block.
 fn entry(rt: &impl Abort, base: u64, log2: u32, perm: Perm) -> Entry {
     let region = Region::new(base, log2).expect(rt, "a block");
     Entry { region, perm }
@@ -22,12 +22,12 @@ fn stretch(first: u64, end: u64, wanted: Perm, given: Perm, entry: Option<usize>
     }
 }
 
-/// Bytes that no entry has, and on which the map has no permission.
+/// Returns a stretch of bytes that no entry matches and on which the map has no permission.
 fn nothing(first: u64, end: u64) -> Stretch {
     stretch(first, end, Perm::NoAccess, Perm::NoAccess, None)
 }
 
-/// The entries cut the map of the ranges so.
+/// Asserts how the entries cut the map of the ranges.
 fn cut(
     rt: &impl Abort,
     alloc: Global,
@@ -40,13 +40,13 @@ fn cut(
     assert!(rt; all.as_slice() == wanted);
 }
 
-/// The first entry from this one on that meets a piece: the entry, the piece from here, to there, the entry that meets it.
+/// The lowest entry from this number on that overlaps a piece: the number, the ends of the piece, and the entry found.
 type Meeting = (usize, u64, u64, Option<usize>);
 
-/// A block: where it begins, and its size as a power of two.
+/// A block: its base, and its size as a power of two.
 type Block = (u64, u32);
 
-/// The extents of blocks.
+/// Returns the extents of blocks.
 fn tree_of(rt: &impl Abort, alloc: Global, blocks: &[Block]) -> ExtentTree {
     let mut entries = Vec::new(alloc);
     for (base, log2) in blocks {
@@ -57,7 +57,7 @@ fn tree_of(rt: &impl Abort, alloc: Global, blocks: &[Block]) -> ExtentTree {
     ExtentTree::new(alloc, extents.as_slice()).expect(rt, "memory")
 }
 
-/// For each row the first of the blocks is found that meets the piece.
+/// Asserts the first block that overlaps the piece of each row.
 fn meet(rt: &impl Abort, alloc: Global, blocks: &[Block], rows: &[Meeting]) {
     let tree = tree_of(rt, alloc, blocks);
     for (from, first, end, wanted) in rows {
@@ -65,7 +65,7 @@ fn meet(rt: &impl Abort, alloc: Global, blocks: &[Block], rows: &[Meeting]) {
     }
 }
 
-/// Of five entries: each that has a byte in turn, a piece between them, and a byte more on either side.
+/// Searches of five entries: each that contains a byte in turn, a piece between them, and one byte more on either side.
 const MEETINGS: &[Meeting] = &[
     (0, 0x3000, 0x3001, Some(0)),
     (1, 0x3000, 0x3001, Some(3)),
@@ -85,7 +85,7 @@ const FIVE: &[Block] = &[
     (0, 14),
 ];
 
-/// The third has a byte past the end of those before it.
+/// The third block contains a byte after the end of those before it.
 const RISING: &[Block] = &[(0x1000, 12), (0x2000, 12), (0x3000, 12), (0x8000, 12)];
 
 #[test]

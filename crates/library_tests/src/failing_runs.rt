@@ -22,10 +22,10 @@ fn fails(
     None
 }
 
-/// A run on a new machine: the trace, the read or the write that fails, how the run ends, and its report.
+/// A run on a new machine: the trace, the read or the write that fails, the end of the run, and its report.
 type Row<'a> = (&'a [u8], Option<u64>, Option<u64>, RunFault, &'a str);
 
-/// Each row's run ends as it says, after its report.
+/// Asserts the end and the report of each row's run.
 fn all_fail(rt: &impl Abort, alloc: Global, rows: &[Row<'_>]) {
     for (trace, read, write, end, report) in rows {
         let mut machine = example_machine(rt, alloc, 1);
@@ -54,7 +54,7 @@ fn a_failing_device_ends_a_run_behind_what_it_took(rt: HostRuntime) {
     );
 }
 
-/// The sink fails in the second reply, and the second event has happened.
+/// Asserts that the second event has happened if the sink fails in its reply.
 fn is_cut_in_a_reply(rt: &impl Abort, machine: &mut Machine) {
     let mut source = PieceSource::new(b"reg x5 7\nreg x5 8\nreg x5 9\n", 100, None);
     let mut sink = PieceSink::new(1, Some(8));
@@ -69,7 +69,7 @@ fn an_event_whose_reply_is_cut_has_happened(rt: HostRuntime) {
     is_cut_in_a_reply(&rt, &mut machine);
 }
 
-/// The sink takes no byte of the first reply, and the first event alone has happened.
+/// Asserts that only the first event has happened if the sink accepts no byte of its reply.
 fn takes_none(rt: &impl Abort, machine: &mut Machine) {
     let mut source = PieceSource::new(b"reg x5 7\nreg x5 8\n", 100, None);
     let mut sink = PieceSink::new(0, None);

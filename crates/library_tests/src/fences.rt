@@ -1,10 +1,11 @@
-//! An enclave on one hart, and a host on another that asks for fences.
+//! An enclave on one hart, and a host on another that requests fences.
 
 ghost use Rattle.library_tests.specs.Fences.{FenceKeepsEnclave, LosesRegisters};
 
 use board::board_law;
 
-/// An enclave that a fence interrupts keeps all of its registers: its next trap saves those that it had before the fence.
+/// An enclave that a fence interrupts keeps all of its registers: its next trap saves those that it had before the
+/// fence.
 pub fn fence_on_board()
     ensures { FenceKeepsEnclave }
 {

@@ -1,5 +1,5 @@
-//! How the theorems of the firmware and of a board are used: traps are served, and what is known of the harts after them; an
-//! enclave is destroyed on a board, and what is known of its bytes.
+//! Uses of the theorems on the firmware and on a board: the state of the harts after traps are served, and of an
+//! enclave's bytes after it is destroyed on a board.
 
 ghost use Rattle.std.specs.Prelude.{[], IfOk};
 ghost use Rattle.trap_server.specs.Runs.{Ran};
@@ -10,8 +10,8 @@ use std::alloc::Global;
 use text_lines::{Sink, Source};
 use trap_server::{ServeFault, firmware_law, serve_traps};
 
-/// Serves the traps of a source, as the firmware does. Where its input ends they are a run, of which the firmware's theorem
-/// holds: each hart that is in the host's world then has loaded the fewest entries of the host's view.
+/// Serves the traps of a source, as the firmware does. If its input ends, they are a run to which the firmware's
+/// theorem applies: each hart that is then in the host's world has loaded the fewest entries of the host's view.
 pub fn serve_life<R: Source, W: Sink>(
     alloc: Global,
     source: &mut R,
@@ -25,7 +25,7 @@ pub fn serve_life<R: Source, W: Sink>(
     served
 }
 
-/// Where a trap destroys an enclave on a board, after any events: until then each access of its private bytes by another
+/// If a trap destroys an enclave on a board, after any events: until then each access of its private bytes by another
 /// world was a fault, after it they are zero, and each hart has loaded the fewest entries of its world's view.
 pub fn destroyed_on_board()
     ensures { WipesDestroyed }

@@ -1,5 +1,5 @@
-//! How the headline of the machine is used: an enclave lives on two harts, a machine runs two traces and one event more, and
-//! what is known of the machine after it.
+//! Uses of the headline of the machine: an enclave lives on two harts, a machine runs two traces and one more event,
+//! and the headline applies to the machine after it.
 
 ghost use Rattle.std.specs.Prelude.{◌≡◌, ℕ, List, [], ◌∷◌, ◌++◌};
 ghost use Rattle.platforms.specs.Platform.{PlatformLayout};
@@ -13,8 +13,9 @@ ghost use Rattle.library_tests.specs.Life.{life_of};
 use arrayvec::ArrayVec;
 use hart_sim::{Event, Machine, Reply, Sink, Source, headline_law, run};
 
-/// An enclave lives on two harts: the first creates and runs it, the timer stops it there, the second resumes it, it leaves
-/// there, and the first destroys it. Whatever was before, the headline holds after these six events and their replies.
+/// An enclave lives on two harts: the first creates and runs it, the timer stops it there, the second resumes it, it
+/// exits there, and the first destroys it. Whatever happened before, the headline holds after these six events and
+/// their replies.
 pub fn life(
     machine: &mut Machine,
     create: ArrayVec<u64, 8>,
@@ -40,8 +41,8 @@ pub fn life(
     [created, entered, stopped, resumed, left, destroyed]
 }
 
-/// Two traces run on a machine, and then the timer comes on its first hart. However each run ends, the headline holds after
-/// what was before and all that happened since.
+/// Runs two traces on a machine, followed by a timer interrupt on its first hart. However each run ends, the headline
+/// holds after everything that happened before and since.
 pub fn runs_on<R: Source, W: Sink>(
     machine: &mut Machine,
     first: &mut R,

@@ -1,5 +1,5 @@
-//! Rows that are proved: a list and its view, and costs of trees, worked out by hand; and the law that the certificate of a plan
-//! is accepted.
+//! Proved examples: a list and its view, and costs of trees, worked out by hand; and the law that the certificate of a
+//! plan is accepted.
 
 ghost use Rattle.std.specs.Prelude.{◌≡◌, IfOk, Ok};
 ghost use Rattle.pmp_encoding.specs.declared.perm.Perm.TheVariants.{NoAccess, ReadWriteExecute};
@@ -18,8 +18,9 @@ use pmp_encoding::Limit;
 use prefix_tree::Tree;
 use std::alloc::Global;
 
-/// The number of entries of the plan of a tree, and the checker's answer to the plan's certificate. If the tree means the map, the
-/// certificate is accepted, with that number, and the map needs as many entries. The only error is out of memory.
+/// Returns the number of entries of the plan of a tree, and the result of checking the plan's certificate. If the tree
+/// means the map, the certificate is accepted with that number, and the map needs that many entries. The only error is
+/// a failed allocation.
 pub fn checked_plan(
     alloc: Global,
     map: &PermissionMap,
@@ -37,7 +38,7 @@ pub fn checked_plan(
     Ok((plan.needed(), check(map, bytes.as_slice())))
 }
 
-/// The list of the boot means the host's view at boot, which needs three entries.
+/// The list at boot means the host's view at boot, which needs three entries.
 pub fn boot_row()
     ensures means { Means boot_list boot_view }
     ensures needs { Needs boot_view 3 }

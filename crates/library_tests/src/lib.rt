@@ -1,8 +1,9 @@
-//! Tests of the libraries: maps, plans, certificates and their check; calls, the table of enclaves, changes of world, measurements,
-//! SBI calls, and traces on booted machines with their reports.
+//! Tests of the libraries: maps, plans, certificates and their check; calls, the table of enclaves, switches of world,
+//! measurements, SBI calls, and traces on booted machines with their reports.
 //!
-//! They are in a crate of their own so that the gate proves each tested crate once. [`life`] and [`runs_on`] show how the headline is
-//! used, [`boot_row`] and [`checked_plan`] the theorems on plans, and [`serve_life`] that on the firmware.
+//! They are in a crate of their own so that the gate proves each tested crate only once. [`life`] and [`runs_on`] show
+//! how to use the headline, [`boot_row`] and [`checked_plan`] the theorems on plans, and [`serve_life`] the theorem on
+//! the firmware.
 #![tactic(auto)]
 
 #[cfg(test)]
@@ -19,6 +20,7 @@ mod checks;
 mod cuts;
 #[cfg(test)]
 mod digests;
+mod duties;
 #[cfg(test)]
 mod failing_runs;
 mod fences;
@@ -64,9 +66,10 @@ mod trees;
 #[cfg(test)]
 mod two_harts;
 
+pub use duties::{comes_anyhow, ends_anyhow, resumes_anyhow};
 pub use fences::{fence_on_board, served_anyhow};
 pub use firmware::{destroyed_on_board, serve_life};
-pub use harts::{each_is_needed, qemu_confines};
+pub use harts::{each_is_needed, qemu_confines, wrote_anyhow};
 pub use headline::{life, runs_on};
 pub use laws::{boot_row, checked_plan, worked_rows};
 pub use starts::started_anyhow;

@@ -5,13 +5,13 @@ use pmp_encoding::Perm;
 use std::alloc::Global;
 use std::process::Abort;
 
-/// Pages of the space.
+/// The number of pages of the address space.
 const SPACE: u64 = 1 << 44;
 
 /// A range or a run: the first page, the number of pages, the permission.
 type Range = (u64, u64, Perm);
 
-/// The map in which these ranges were set, one after another.
+/// Returns the map after these ranges were set, one after another.
 fn map_of(alloc: Global, ranges: &[Range]) -> Result<PermissionMap, MapFault> {
     let mut map = PermissionMap::new(alloc);
     for (first, count, perm) in ranges {
@@ -20,7 +20,7 @@ fn map_of(alloc: Global, ranges: &[Range]) -> Result<PermissionMap, MapFault> {
     Ok(map)
 }
 
-/// Whether runs are these, in this order.
+/// Returns whether the runs are these, in this order.
 fn are_runs(runs: &[Run], wanted: &[Range]) -> bool {
     for (run, row) in runs.iter().zip(wanted) {
         if (run.first, run.count, run.perm) != *row {
@@ -30,7 +30,7 @@ fn are_runs(runs: &[Run], wanted: &[Range]) -> bool {
     runs.len() == wanted.len()
 }
 
-/// The map of a builder that is given these ranges.
+/// Returns the map of a builder that receives these ranges.
 fn built_of(rt: &impl Abort, alloc: Global, ranges: &[Range]) -> PermissionMap {
     let mut built = MapBuilder::new(alloc);
     for (first, count, perm) in ranges {
@@ -39,7 +39,7 @@ fn built_of(rt: &impl Abort, alloc: Global, ranges: &[Range]) -> PermissionMap {
     built.finish().expect(rt, "memory")
 }
 
-/// These ranges give these runs, a copy has them too, and so has the map of a builder.
+/// Asserts the runs of a map with these ranges, of its copy, and of a builder's map.
 fn have_runs(rt: &impl Abort, alloc: Global, ranges: &[Range], wanted: &[Range]) {
     let map = map_of(alloc, ranges).expect(rt, "memory");
     assert!(rt; are_runs(map.ranges(), wanted));
@@ -49,7 +49,7 @@ fn have_runs(rt: &impl Abort, alloc: Global, ranges: &[Range], wanted: &[Range])
     assert!(rt; built.ranges() == map.ranges());
 }
 
-/// The example, in which a later range takes the lowest pages of an earlier one away.
+/// The example, in which a later range removes the lowest pages of an earlier one.
 const EXAMPLE: &[Range] = &[
     (0x80000, 0x8000, Perm::ReadWriteExecute),
     (0x80000, 0x200, Perm::NoAccess),
@@ -58,7 +58,7 @@ const EXAMPLE: &[Range] = &[
 
 const LAST_PAGE: &[Range] = &[(SPACE - 1, 1, Perm::ReadExecute)];
 
-/// Ranges, and the runs that they give.
+/// Ranges, and the resulting runs.
 const RUNS: &[(&[Range], &[Range])] = &[
     (&[], &[]),
     (
@@ -111,12 +111,12 @@ fn ranges_become_maximal_runs(rt: HostRuntime) {
     }
 }
 
-/// The page has this permission.
+/// Asserts the permission of the page.
 fn gives(rt: &impl Abort, map: &PermissionMap, page: u32, perm: Perm) {
     assert!(rt; map.get(u64::from(page)) == perm, "{page:#x}");
 }
 
-/// A block of the example that has one permission, one that has two, and one that has none.
+/// Asserts the permissions of a block of the example with one permission, one with two, and one with none.
 fn has_blocks(rt: &impl Abort, map: &PermissionMap) {
     assert!(rt; map.uniform(0x84000, 14) == Some(Perm::ReadWriteExecute));
     assert!(rt; map.uniform(0x80000, 15) == None);
@@ -136,7 +136,7 @@ fn pages_and_blocks_of_the_example(rt: HostRuntime) {
     has_blocks(&rt, &map);
 }
 
-/// One run more is refused, and the map keeps its runs.
+/// Asserts that one more run is refused, and that the map keeps its runs.
 fn refuses_one_more(rt: &impl Abort, map: &mut PermissionMap) {
     let before = map.try_clone().expect(rt, "memory");
     let refused = map.set_range(8192, 1, Perm::Read);
@@ -144,7 +144,7 @@ fn refuses_one_more(rt: &impl Abort, map: &mut PermissionMap) {
     assert!(rt; map.ranges() == before.ranges());
 }
 
-/// Sets as many runs as there may be; one more is refused, and what grows the last is not.
+/// Sets as many runs as allowed; one more is refused, but the last may grow.
 fn fills(rt: &impl Abort, map: &mut PermissionMap) {
     for i in 0..4096u64 {
         map.set_range(2 * i, 1, Perm::Read).expect(rt, "memory");
@@ -154,7 +154,7 @@ fn fills(rt: &impl Abort, map: &mut PermissionMap) {
     assert!(rt; map.ranges().len() == 4096);
 }
 
-/// Ranges are set or refused so, one after another: the first page, the number of pages, the answer.
+/// Asserts the results of setting ranges, one after another: the first page, the number of pages, the result.
 fn sets(rt: &impl Abort, map: &mut PermissionMap, rows: &[(u64, u64, Result<(), MapFault>)]) {
     for (first, count, wanted) in rows {
         let answer = map.set_range(*first, *count, Perm::Read);
@@ -172,7 +172,7 @@ const AT_THE_END: &[(u64, u64, Result<(), MapFault>)] = &[
     (SPACE, 0, Ok(())),
 ];
 
-/// Gives a builder as many runs as there may be; one more is refused, and what grows the last is not.
+/// Gives a builder as many runs as allowed; one more is refused, but the last may grow.
 fn fills_builder(rt: &impl Abort, built: &mut MapBuilder) {
     for i in 0..4096u64 {
         built.set_range(2 * i, 1, Perm::Read).expect(rt, "memory");
@@ -182,7 +182,7 @@ fn fills_builder(rt: &impl Abort, built: &mut MapBuilder) {
     built.set_range(8191, 1, Perm::Read).expect(rt, "memory");
 }
 
-/// The map of a full builder has as many runs as there may be.
+/// Asserts that the map of a full builder has as many runs as allowed.
 fn is_full(rt: &impl Abort, alloc: Global) {
     let mut built = MapBuilder::new(alloc);
     fills_builder(rt, &mut built);

@@ -1,4 +1,4 @@
-//! What a machine shows of what does not run: the pages that were written, and the registers of an enclave that is stopped.
+//! The observable state of what does not run: the pages that were written, and the registers of a stopped enclave.
 
 use crate::machines::{answers, example_machine};
 use enclave_table::World;
@@ -10,7 +10,7 @@ const A0: usize = 10;
 
 const T0: usize = 5;
 
-/// A page is written from its first store on, and until the enclave that has it is destroyed.
+/// Asserts that a page is written from its first store until its enclave is destroyed.
 fn shows_its_written_page(rt: &impl Abort, machine: &mut Machine) {
     assert!(rt; !machine.is_written(0x8_0200));
     assert!(rt;
@@ -38,13 +38,13 @@ fn a_page_is_written_from_its_first_store_on(rt: HostRuntime) {
     shows_its_written_page(&rt, &mut machine);
 }
 
-/// Two registers of the enclave with the id 1.
+/// Returns two registers of the enclave with the id 1.
 fn of_the_enclave(machine: &Machine) -> [u64; 2] {
     let registers = machine.registers_of(0, World::Enclave(1));
     [registers.get(A0), registers.get(T0)]
 }
 
-/// The registers of an enclave wait while it is stopped, and are zero once it has ended.
+/// Asserts that the registers of an enclave are kept while it is stopped, and are zero after it has ended.
 fn drops_registers(rt: &impl Abort, machine: &mut Machine) {
     assert!(rt;
         answers(

@@ -1,4 +1,4 @@
-//! Calls that are refused for too few entries, each with the number that a view needs.
+//! Calls that are refused for lack of entries, each with the number that a view needs.
 
 use crate::machines::example_machine;
 use std::alloc::Global;
@@ -7,7 +7,7 @@ use text_lines::Direct;
 use text_lines::fakes::{PieceSink, PieceSource};
 use trace_answers::explain_run;
 
-/// Of a trace on a new machine the last answer is this one.
+/// Asserts the last answer to a trace on a new machine.
 fn ends_with(rt: &impl Abort, alloc: Global, trace: &[u8], last: &[u8]) {
     let machine = example_machine(rt, alloc, 1);
     let mut source = PieceSource::new(trace, 100, None);

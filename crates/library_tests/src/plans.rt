@@ -21,10 +21,10 @@ const PERMS: [Perm; 6] = [
 /// A range: the first page, the number of pages, the permission.
 pub type Range = (u64, u64, Perm);
 
-/// An entry as it is written: the configuration byte and the address.
+/// An encoded entry: the configuration byte and the address.
 type Pair = (u8, u64);
 
-/// The map that gives these ranges their permissions.
+/// Returns the map with these ranges.
 pub fn map_of(rt: &impl Abort, alloc: Global, ranges: &[Range]) -> PermissionMap {
     let mut map = PermissionMap::new(alloc);
     for (first, count, perm) in ranges {
@@ -33,7 +33,7 @@ pub fn map_of(rt: &impl Abort, alloc: Global, ranges: &[Range]) -> PermissionMap
     map
 }
 
-/// Whether entries are written as these pairs, in this order.
+/// Returns whether the entries encode as these pairs, in this order.
 fn are_written(entries: &[PackedEntry], pairs: &[Pair]) -> bool {
     for (entry, pair) in entries.iter().zip(pairs) {
         if entry.encode() != *pair {
@@ -43,7 +43,7 @@ fn are_written(entries: &[PackedEntry], pairs: &[Pair]) -> bool {
     entries.len() == pairs.len()
 }
 
-/// Whether two plans have the same entries, in the same order.
+/// Returns whether two plans have the same entries, in the same order.
 fn have_same_entries(one: &Plan, other: &Plan<PackedEntry>) -> bool {
     for (entry, same) in one.entries().iter().zip(other.entries()) {
         if *entry != same.entry() {
@@ -53,7 +53,7 @@ fn have_same_entries(one: &Plan, other: &Plan<PackedEntry>) -> bool {
     one.entries().len() == other.entries().len()
 }
 
-/// Whether two plans have the same costs of all split blocks under all permissions.
+/// Returns whether two plans have the same costs of all split blocks for all permissions.
 fn have_same_costs(one: &Plan, other: &Plan<PackedEntry>) -> bool {
     if one.branches() != other.branches() {
         return false;
@@ -68,7 +68,7 @@ fn have_same_costs(one: &Plan, other: &Plan<PackedEntry>) -> bool {
     true
 }
 
-/// Whether the split blocks of a plan have these costs, under all permissions in their order.
+/// Returns whether the split blocks of a plan have these costs, for all permissions in their order.
 fn have_costs(plan: &Plan, wanted: &[[u32; 6]]) -> bool {
     for i in 0..plan.branches() {
         let costs = wanted.get(i).copied().unwrap_or_default();
@@ -81,7 +81,7 @@ fn have_costs(plan: &Plan, wanted: &[[u32; 6]]) -> bool {
     plan.branches() == wanted.len()
 }
 
-/// Whether a plan without a tree is that of the map's tree, with the same entries and costs.
+/// Returns whether a plan made without a tree is that of the map's tree, with the same entries and costs.
 fn is_of_tree(
     rt: &impl Abort,
     alloc: Global,
@@ -96,14 +96,14 @@ fn is_of_tree(
         && have_same_costs(&plan, of_map)
 }
 
-/// The map has the same certificate by its tree as without it.
+/// Asserts that the map has the same certificate with and without its tree.
 fn is_certified_alike(rt: &impl Abort, alloc: Global, map: &PermissionMap) {
     let bytes = by_map(rt, alloc, map, Limit::Sixteen);
     assert!(rt; bytes == by_tree(rt, alloc, map, Limit::Sixteen));
 }
 
-/// The plan of the ranges has these entries, written as pairs, in this order, and so has that of their map's tree, with
-/// the same costs and the same certificate.
+/// Asserts that the plan of the ranges has these entries, as pairs in this order, and that the plan of their map's tree
+/// is the same, with the same costs and certificate.
 fn is_planned(rt: &impl Abort, alloc: Global, ranges: &[Range], pairs: &[Pair]) {
     let map = map_of(rt, alloc, ranges);
     let plan = plan_map(alloc, &map).expect(rt, "memory");
@@ -113,7 +113,7 @@ fn is_planned(rt: &impl Abort, alloc: Global, ranges: &[Range], pairs: &[Pair]) 
     is_certified_alike(rt, alloc, &map);
 }
 
-/// The bank that has the list of the ranges' plan has this first configuration word.
+/// Asserts the first configuration word of the bank with the list of the ranges' plan.
 fn configures(rt: &impl Abort, alloc: Global, ranges: &[Range], word: u64) {
     let map = map_of(rt, alloc, ranges);
     let plan = plan_map(alloc, &map).expect(rt, "memory");
@@ -121,7 +121,7 @@ fn configures(rt: &impl Abort, alloc: Global, ranges: &[Range], word: u64) {
     assert!(rt; Bank::of_packed(plan.entries(), Limit::Sixteen).cfg0() == word);
 }
 
-/// The map of the ranges splits as many blocks as there are rows, which have these costs.
+/// Asserts that the map of the ranges splits as many blocks as there are rows, with these costs.
 fn costs(rt: &impl Abort, alloc: Global, ranges: &[Range], rows: &[[u32; 6]]) {
     let tree = build(alloc, &map_of(rt, alloc, ranges)).expect(rt, "memory");
     let plan = plan(alloc, &tree).expect(rt, "memory");
@@ -152,7 +152,7 @@ fn boot_of_the_example_platform_uses_three_entries(rt: HostRuntime) {
 
 const SEVEN_PAGES: &[Range] = &[(0x80208, 7, Perm::ReadExecute)];
 
-/// Two pages and one, of which the second has the permission of the third.
+/// Two pages and one page, where the second has the permission of the third.
 const TIE: &[Range] = &[
     (0x80200, 1, Perm::ReadExecute),
     (0x80201, 1, Perm::ReadWrite),
@@ -161,12 +161,12 @@ const TIE: &[Range] = &[
 
 /// Ranges, and the pairs of their plan.
 const PLANNED: &[(&[Range], &[Pair])] = &[
-    // the whole space
+    // the whole address space
     (
         &[(0, 1 << 44, Perm::ReadWriteExecute)],
         &[(0x1F, 0x001F_FFFF_FFFF_FFFF)],
     ),
-    // a page denied in it
+    // the whole space except one page
     (
         &[
             (0, 1 << 44, Perm::ReadWriteExecute),
@@ -174,14 +174,14 @@ const PLANNED: &[(&[Range], &[Pair])] = &[
         ],
         &[(0x18, 0x2000_01FF), (0x1F, 0x001F_FFFF_FFFF_FFFF)],
     ),
-    // seven pages: eight, and one of them denied
+    // seven pages: eight, with one of them denied
     (SEVEN_PAGES, &[(0x18, 0x2008_3DFF), (0x1D, 0x2008_2FFF)]),
-    // one page of four is overridden
+    // one of four pages is overridden
     (
         &[(0x80000, 4, Perm::Read), (0x80001, 1, Perm::ReadWrite)],
         &[(0x1B, 0x2000_05FF), (0x19, 0x2000_07FF)],
     ),
-    // the inherited permission stays where it is best for a half
+    // the inherited permission stays if it is best for a half
     (
         &[(0x80000, 4, Perm::Read), (0x80001, 1, Perm::NoAccess)],
         &[(0x19, 0x2000_01FF), (0x19, 0x2000_0BFF)],
@@ -199,7 +199,7 @@ const PLANNED: &[(&[Range], &[Pair])] = &[
             (0x19, 0x2000_07FF),
         ],
     ),
-    // a tie is settled as two pages
+    // a tie is resolved as two pages
     (
         TIE,
         &[
@@ -219,15 +219,15 @@ fn maps_have_the_fewest_entries_with_and_without_a_tree(rt: HostRuntime) {
     configures(&rt, rt.alloc(), TIE, 0x1B_1B1D);
 }
 
-/// The map needs that many entries.
+/// Asserts that the map needs that many entries.
 fn needs(rt: &impl Abort, alloc: Global, map: &PermissionMap, wanted: u32) {
     let tree = build(alloc, map).expect(rt, "memory");
     let plan = plan(alloc, &tree).expect(rt, "memory");
     assert!(rt; plan.needed() == wanted);
 }
 
-/// What the host of the example platform may do where these many single pages, each second one from 0x80200000 on, are
-/// private to enclaves.
+/// Returns the view of the example platform's host when this many single pages, every second one from 0x80200000 on,
+/// are private to enclaves.
 fn host_beside_scattered_pages(rt: &impl Abort, alloc: Global, pages: u32) -> PermissionMap {
     let ranges = [
         (0x80000, 0x8000, Perm::ReadWriteExecute),
@@ -242,13 +242,13 @@ fn host_beside_scattered_pages(rt: &impl Abort, alloc: Global, pages: u32) -> Pe
     map
 }
 
-/// The host beside `pages` scattered pages needs `wanted` entries.
+/// Asserts that the host beside `pages` scattered pages needs `wanted` entries.
 fn scattered_pages_need(rt: &impl Abort, alloc: Global, pages: u32, wanted: u32) {
     let map = host_beside_scattered_pages(rt, alloc, pages);
     needs(rt, alloc, &map, wanted);
 }
 
-/// The map of the ranges needs that many entries.
+/// Asserts that the map of the ranges needs that many entries.
 fn ranges_need(rt: &impl Abort, alloc: Global, ranges: &[Range], wanted: u32) {
     let map = map_of(rt, alloc, ranges);
     needs(rt, alloc, &map, wanted);

@@ -1,19 +1,19 @@
-//! What is written where a frame of a trap is refused.
+//! The output after a trap frame is refused.
 
 use std::alloc::Global;
 use std::process::Abort;
 use text_lines::fakes::{PieceSink, PieceSource};
 use trap_server::{EndReason, ServeFault, serve_traps};
 
-/// The bytes of an answer before its lists, of which byte 72 says how many there are, and those of a list. No answer
-/// here gives control words.
+/// The size of an answer before its lists, whose number is in byte 72, and the size of a list. No answer here gives
+/// control words.
 const FRONT: usize = 184;
 
 const LIST: usize = 584;
 
 const END: &[u8] = b"end\0\0\0\0\0\x01\0\0\0\0\0\0\0\0\0\0\0\0\0\0\0";
 
-/// A platform of one hart, an interrupt there, and an invalid frame.
+/// Returns a platform with one hart, an interrupt there, and an invalid frame.
 fn frames() -> [u8; 1528] {
     let mut bytes = [0; 1528];
     bytes[..8].copy_from_slice(b"platform");
@@ -28,7 +28,7 @@ fn frames() -> [u8; 1528] {
     bytes
 }
 
-/// After that many answers there is one last frame and nothing else.
+/// Asserts that one last frame, and nothing else, follows that many answers.
 fn ends_behind(rt: &impl Abort, alloc: Global, frames: &[u8], answers: usize) {
     let mut source = PieceSource::new(frames, 4096, None);
     let mut sink = PieceSink::new(4096, None);

@@ -1,26 +1,26 @@
-//! Register pairs and the entries that they mean.
+//! Register pairs and the entries that they encode.
 
 use pmp_encoding::{Bank, EncodingFault, Entry, Extent, Limit, Perm, Region, decode};
 use std::process::Abort;
 
-/// The entry on the block.
+/// Returns the entry of the block.
 fn entry(rt: &impl Abort, base: u64, log2: u32, perm: Perm) -> Entry {
     let region = Region::new(base, log2).expect(rt, "a block");
     Entry { region, perm }
 }
 
-/// The pair of a configuration byte and an address means this.
+/// Asserts the meaning of a pair of a configuration byte and an address.
 fn means(rt: &impl Abort, cfg: u8, addr: u64, meaning: Result<Option<Entry>, EncodingFault>) {
     assert!(rt; decode(cfg, addr) == meaning, "{cfg:#x} {addr:#x}");
 }
 
-/// An entry that is written as this pair, and that the pair is read as.
+/// Asserts that the entry encodes as this pair, and that the pair decodes to it.
 fn goes_both_ways(rt: &impl Abort, entry: Entry, cfg: u8, addr: u64) {
     assert!(rt; entry.encode() == (cfg, addr));
     means(rt, cfg, addr, Ok(Some(entry)));
 }
 
-/// A block, where it begins and its size as a power of two, the permission, and the pair.
+/// A block's base, its size as a power of two, the permission, and the pair.
 const BOTH_WAYS: &[(u64, u32, Perm, u8, u64)] = &[
     (0x8000_0000, 2, Perm::Read, 0x11, 0x2000_0000),
     (0x8000_0008, 3, Perm::ReadWrite, 0x1B, 0x2000_0002),
@@ -37,7 +37,7 @@ const BOTH_WAYS: &[(u64, u32, Perm, u8, u64)] = &[
     (0, 56, Perm::ReadWriteExecute, 0x1F, 0x001F_FFFF_FFFF_FFFF),
 ];
 
-/// Pairs with a fault, the least of theirs.
+/// Invalid pairs, each with the least of its faults.
 const FAULTY: &[(u8, u64, EncodingFault)] = &[
     (0x0A, 0, EncodingFault::ReservedPerm),
     (0x8F, 0, EncodingFault::Tor),
@@ -60,7 +60,7 @@ fn pairs_mean_entries_or_have_a_least_fault(rt: HostRuntime) {
     }
 }
 
-/// Faults and limits have these numbers.
+/// Asserts the numbers of faults and limits.
 fn have_numbers(rt: &impl Abort) {
     let faults = (
         EncodingFault::ReservedPerm.number(),
@@ -73,7 +73,7 @@ fn have_numbers(rt: &impl Abort) {
     assert!(rt; of == [Some(Limit::Sixteen), Some(Limit::SixtyFour), None, None]);
 }
 
-/// Six bytes are a permission's bits, and others are none.
+/// Asserts that six bytes are the bits of a permission, and that others are not.
 fn have_bits(rt: &impl Abort) {
     for bits in [0u8, 1, 3, 4, 5, 7] {
         let perm = Perm::from_bits(bits).expect(rt, "a permission");
@@ -84,7 +84,7 @@ fn have_bits(rt: &impl Abort) {
     }
 }
 
-/// The indices of permissions, and the entry that is blank.
+/// Asserts the indices of permissions, and the blank entry.
 fn have_indices_and_blanks(rt: &impl Abort) {
     let indices = (Perm::default().index(), Perm::ReadWriteExecute.index());
     assert!(rt; indices == (0, 5));
@@ -95,7 +95,7 @@ fn have_indices_and_blanks(rt: &impl Abort) {
     assert!(rt; Entry::default() == blank);
 }
 
-/// A block is aligned, and in the space.
+/// Asserts that a block must be aligned and in the address space.
 fn are_blocks(rt: &impl Abort) {
     let last = Region::new((1 << 56) - 4, 2).expect(rt, "a block");
     assert!(rt; (last.base(), last.log2()) == ((1 << 56) - 4, 2));
@@ -112,7 +112,7 @@ fn parts_of_entries(rt: HostRuntime) {
     are_blocks(&rt);
 }
 
-/// A write to a register of the bank answers this.
+/// Asserts the result of writing a register of the bank.
 fn writes(
     rt: &impl Abort,
     bank: &mut Bank,
@@ -126,7 +126,7 @@ fn writes(
     );
 }
 
-/// Writes that are refused: the register, the value, the fault. Of a word the lowest faulty byte is named.
+/// Refused writes: the register, the value, the fault. The fault of a word is that of its lowest invalid byte.
 const REFUSED: &[(u16, u64, EncodingFault)] = &[
     (0x3A1, 0, EncodingFault::NoSuchCsr),
     (0x3A0, 0x8F, EncodingFault::Tor),
@@ -136,7 +136,7 @@ const REFUSED: &[(u16, u64, EncodingFault)] = &[
     (0x3B0, 1 << 54, EncodingFault::AddressBits),
 ];
 
-/// A write of the value is refused with the fault, and the bank stays as it is.
+/// Asserts that a write of the value is refused with the fault and leaves the bank unchanged.
 fn refuses(rt: &impl Abort, before: &Bank, number: u16, value: u64, fault: EncodingFault) {
     let mut bank = *before;
     writes(rt, &mut bank, number, value, Err(fault));
@@ -161,7 +161,7 @@ fn written_registers_are_read_back(rt: HostRuntime) {
     assert!(rt; bank.extents().len() == 0);
 }
 
-/// Zero into a register of an empty bank of each limit answers these.
+/// Asserts the results of writing zero to a register of an empty bank with each limit.
 fn writes_zero(
     rt: &impl Abort,
     number: u16,
@@ -174,10 +174,10 @@ fn writes_zero(
     writes(rt, &mut bank, number, 0, large);
 }
 
-/// Registers that a bank of sixty-four has and one of sixteen lacks.
+/// Registers that a bank of sixty-four entries has and one of sixteen lacks.
 const PAST_THE_SIXTEENTH: [u16; 4] = [0x3A4, 0x3AE, 0x3C0, 0x3EF];
 
-/// Registers of odd numbers, and others, that neither has.
+/// An odd configuration register, and others, that neither bank has.
 const IN_NEITHER: [u16; 3] = [0x3A1, 0x3F0, 0x300];
 
 #[test]
@@ -196,7 +196,7 @@ fn refused_writes_change_nothing(rt: HostRuntime) {
     }
 }
 
-/// The bank of the three entries of a boot has these words.
+/// Asserts the words of the bank with the three entries at boot.
 fn boots(rt: &impl Abort) {
     let device = entry(rt, 0x1000_0000, 12, Perm::ReadWrite);
     let monitor = entry(rt, 0x8000_0000, 21, Perm::NoAccess);
@@ -207,7 +207,7 @@ fn boots(rt: &impl Abort) {
     assert!(rt; addrs == [0x0400_01FF, 0x2003_FFFF, 0x20FF_FFFF, 0]);
 }
 
-/// The words of a full bank of sixteen.
+/// Asserts the words of a full bank of sixteen.
 fn fills_sixteen(rt: &impl Abort) {
     let page = entry(rt, 0x8000_0000, 12, Perm::NoAccess);
     let bank = Bank::of([page; 16].as_slice(), Limit::Sixteen);
@@ -217,7 +217,7 @@ fn fills_sixteen(rt: &impl Abort) {
     assert!(rt; (bank.entry(15), bank.entry(16)) == (Some(page), None));
 }
 
-/// The words of a full bank of sixty-four.
+/// Asserts the words of a full bank of sixty-four.
 fn fills_sixty_four(rt: &impl Abort) {
     let page = entry(rt, 0x8000_0000, 12, Perm::NoAccess);
     let bank = Bank::of([page; 64].as_slice(), Limit::SixtyFour);

@@ -1,5 +1,5 @@
-//! Traces on booted machines. A test owns its machine for one call alone, since each call beside an owned one has one
-//! more way out to prove, on which the machine is dropped.
+//! Traces on booted machines. A test owns its machine for one call only, because each call beside an owned machine adds
+//! an exit path to prove, on which the machine is dropped.
 
 use crate::machines::{
     a0_a1_pc, answers, answers_anew, digest, ends_anew, example_machine, example_platform, marks,
@@ -22,7 +22,7 @@ fn the_life_cycle_trace_gives_its_thirteen_lines(rt: HostRuntime) {
     );
 }
 
-/// An enclave is created, run, interrupted, resumed and left, with these words in the registers.
+/// Asserts the registers while an enclave is created, run, interrupted, resumed and left.
 fn goes_through_a_life_cycle(rt: &impl Abort, machine: &mut Machine) {
     assert!(rt;
         answers(
@@ -58,7 +58,7 @@ fn registers_on_the_way_through_a_life_cycle(rt: HostRuntime) {
     goes_through_a_life_cycle(&rt, &mut machine);
 }
 
-/// An enclave stops itself and is resumed, with these words in the registers.
+/// Asserts the registers while an enclave stops itself and is resumed.
 fn stops_and_goes_on(rt: &impl Abort, machine: &mut Machine) {
     assert!(rt;
         answers(
@@ -115,7 +115,7 @@ fn unknown_calls_are_not_supported(rt: HostRuntime) {
     );
 }
 
-/// Of three enclaves of two pages each, the first two have the same contents.
+/// Asserts the digests of three enclaves of two pages each, the first two of which have the same contents.
 fn digests_three(rt: &impl Abort, machine: &mut Machine) {
     assert!(rt;
         answers(
@@ -134,7 +134,7 @@ fn digests_are_of_the_contents_and_not_of_the_place(rt: HostRuntime) {
     digests_three(&rt, &mut machine);
 }
 
-/// The entry of the whole space, with every right.
+/// Returns the entry of the whole space with all permissions.
 fn whole_space(rt: &impl Abort) -> Entry {
     let region = Region::new(0, 56).expect(rt, "a block");
     Entry {
@@ -143,7 +143,7 @@ fn whole_space(rt: &impl Abort) -> Entry {
     }
 }
 
-/// A load is judged by the bank that was put in place.
+/// Asserts that a load is judged by the bank that was put in place.
 fn judges_by_what_is_put(rt: &impl Abort, machine: &mut Machine, all: Entry) {
     put(machine, Bank::of([].as_slice(), Limit::Sixteen));
     assert!(rt; answers(machine, b"load s 8 0x80200000\n", b"1 fault 5\n"));
@@ -164,7 +164,7 @@ fn the_loaded_words_judge(rt: HostRuntime) {
     judges_by_what_is_put(&rt, &mut machine, all);
 }
 
-/// A hart is marked where the view of its world has changed, and no more when it has loaded it.
+/// Asserts that a hart is marked when the view of its world changes, and no longer after it has loaded it.
 fn marks_two_harts(rt: &impl Abort, machine: &mut Machine) {
     assert!(rt;
         answers(
@@ -199,8 +199,8 @@ fn two_harts_and_their_marks(rt: HostRuntime) {
     marks_two_harts(&rt, &mut machine);
 }
 
-/// A creation on the first hart loads an entry more there, for the page that the host has no more. The second hart, which is
-/// marked, has the entries from before.
+/// Asserts that a creation on the first hart loads one more entry there, for the page that the host loses. The second
+/// hart is marked and keeps its previous entries.
 fn has_a_bank_on_each_hart(rt: &impl Abort, machine: &mut Machine) {
     assert!(rt;
         answers(
@@ -240,7 +240,7 @@ fn lines_of_a_trace(rt: HostRuntime) {
     }
 }
 
-/// A trace of fourteen creations.
+/// Returns a trace of fourteen creations.
 fn fourteen_creations(rt: &impl Abort, alloc: Global) -> Vec<u8> {
     let mut trace: Vec<u8> = Vec::new(alloc);
     for i in 0..14u64 {
@@ -253,7 +253,7 @@ fn fourteen_creations(rt: &impl Abort, alloc: Global) -> Vec<u8> {
     trace
 }
 
-/// The last of fourteen creations takes the seventeenth entry.
+/// Asserts that the last of fourteen creations takes the seventeenth entry.
 fn takes_the_seventeenth(rt: &impl Abort, machine: &mut Machine, trace: &[u8]) {
     let mut source = PieceSource::new(trace, 100, None);
     let mut sink = PieceSink::new(100, None);

@@ -1,4 +1,4 @@
-//! Calls of the Supervisor Binary Interface, and what they come to.
+//! Calls of the Supervisor Binary Interface, and their outcomes.
 
 ghost use Rattle.std.specs.Prelude.{◌≡◌};
 
@@ -6,7 +6,7 @@ use sbi_calls::{BankWords, Caller, Decision, Harts, HostCall, action_of, decide,
 use sbi_decode::World;
 use std::process::Abort;
 
-// The errors' words: -2, -3, -5 and -6.
+// The words of the errors -2, -3, -5 and -6.
 
 const NOT_SUPPORTED: u64 = 0xffff_ffff_ffff_fffe;
 
@@ -20,7 +20,7 @@ const ALL: u64 = u64::MAX;
 
 const HSM: u64 = 0x0048_534d;
 
-/// Of two harts the first is started.
+/// Two harts, the first of which is started.
 const HARTS: Harts = Harts {
     count: 2,
     started: 1,
@@ -40,7 +40,7 @@ fn caller(hart: u64) -> Caller
     }
 }
 
-/// The 4096 bytes from 0x80200000 on may be executed, and all else may be read and written.
+/// Returns a bank that allows executing the 4096 bytes from 0x80200000 on, and reading and writing everything else.
 fn bank() -> BankWords {
     let mut addr = [0; 64];
     addr[0] = 0x2008_01ff;
@@ -64,7 +64,7 @@ fn call(extension: u64, function: u64, a0: u64, a1: u64) -> HostCall {
     }
 }
 
-/// Extension, function, a0 and a1; and the number of the action, its error, its value, and what it is done with.
+/// Extension, function, a0 and a1; and the number of the action, its error, its value, and its subject.
 type Row = ([u64; 4], [u64; 4]);
 
 const ANSWERS: &[Row] = &[
@@ -115,7 +115,7 @@ const ANSWERS: &[Row] = &[
     // Version 2.0, chapter 12
     ([0x4442_434e, 2, 0x141, 0], [8, 0, 0, 0x41]),
     ([0x4442_434e, 0, 1, 0], [3, NOT_SUPPORTED, 0, 0]),
-    // The monitor's, and the firmware's own; and an extension that there is not
+    // The monitor's, and the firmware's own; and an extension that does not exist
     ([0x0845_4e43, 1, 1, 0], [14, 0, 0, 0]),
     ([0x0845_4e43, 2, 1, 0], [14, 0, 0, 0]),
     ([0x0a45_4e43, 0, 0, 0], [3, 0, 24, 0]),
@@ -123,7 +123,7 @@ const ANSWERS: &[Row] = &[
     ([0x0050_4d55, 0, 0, 0], [3, NOT_SUPPORTED, 0, 0]),
 ];
 
-/// Each call comes to the action of its row.
+/// Asserts the action of each row's call.
 fn all_come_to(rt: &impl Abort, rows: &[Row]) {
     let bank = bank();
     for ([extension, function, a0, a1], wanted) in rows {
@@ -167,7 +167,7 @@ const TRAPS: &[Trap] = &[
     (World::Enclave(1), 5, 16),
 ];
 
-/// Each trap, with the registers of the call that stops a hart, is whose its row says.
+/// Asserts the action of each row's trap, with the registers of the call that stops a hart.
 fn all_are_whose(rt: &impl Abort, traps: &[Trap]) {
     let bank = bank();
     let stop = call(HSM, 1, 0, 0);
@@ -184,7 +184,7 @@ fn traps_are_whose_their_cause_says(rt: HostRuntime) {
     all_are_whose(&rt, TRAPS);
 }
 
-/// What the started and the pending harts are after a trap of a hart of the host.
+/// Asserts the started and the pending harts after a trap of the host on a hart.
 fn goes_on(
     rt: &impl Abort,
     harts: &mut Harts,

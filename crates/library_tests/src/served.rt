@@ -1,5 +1,5 @@
-//! Calls and interrupts on a booted core of the monitor, without memory and traces. The answers, and how many entries each
-//! world needs, are those of the same life on a machine.
+//! Calls and interrupts on a booted core of the monitor, without memory and traces. The answers, and the numbers of
+//! entries that each world needs, are those of the same life on a machine.
 
 ghost use Rattle.std.specs.Prelude.{replicate, ◌<◌};
 
@@ -15,7 +15,7 @@ const A0: usize = 10;
 
 const A1: usize = 11;
 
-/// Pages whose bytes are all zero.
+/// Pages of zeros.
 #[derive(Drop)]
 struct Zeros {}
 
@@ -28,7 +28,7 @@ impl Pages for Zeros {
     }
 }
 
-/// A core on two harts, and the register sets that it speaks of: those of two hosts and of one enclave.
+/// A core on two harts, and its register sets: those of two hosts and of one enclave.
 #[derive(Drop)]
 struct Monitor {
     core: Core,
@@ -38,7 +38,7 @@ struct Monitor {
 }
 
 impl Monitor {
-    /// Does what the core said of one set.
+    /// Applies the core's change to one set.
     fn put_one(&mut self, hart: u8, change: &SetChange) {
         if change.enclave > 0 {
             change.apply(&mut self.enclave);
@@ -49,7 +49,7 @@ impl Monitor {
         }
     }
 
-    /// Does what the core said after an event on a hart.
+    /// Applies the core's changes after an event on a hart.
     fn put(&mut self, hart: u8, changes: &SetChanges) {
         self.put_one(hart, &changes.first);
         self.put_one(hart, &changes.second);
@@ -88,7 +88,7 @@ impl Monitor {
     }
 }
 
-/// The monitor of the example platform, with two harts.
+/// Returns the monitor of the example platform with two harts.
 fn example_monitor(rt: &impl Abort, alloc: Global) -> Monitor {
     let platform = Platform::new(
         (0x8000_0000, 0x20_0000),
@@ -108,7 +108,7 @@ fn example_monitor(rt: &impl Abort, alloc: Global) -> Monitor {
     }
 }
 
-/// The registers of a call at an address: its function, and its first three arguments.
+/// Returns the registers of a call at an address: its function, and its first three arguments.
 fn call_of(pc: u64, function: u64, arguments: [u64; 3]) -> Registers {
     let mut registers = Registers::new();
     registers.set_pc(pc);
@@ -120,7 +120,7 @@ fn call_of(pc: u64, function: u64, arguments: [u64; 3]) -> Registers {
     registers
 }
 
-/// A call on a hart that there is and that is not marked.
+/// Serves a call on an existing hart that is not marked.
 fn served(
     rt: &impl Abort,
     monitor: &mut Monitor,
@@ -140,7 +140,7 @@ fn served(
     served
 }
 
-/// An interrupt on such a hart, with this word in a0: whether its entries are to be loaded anew.
+/// Interrupts such a hart with this word in a0, and returns whether it must reload its entries.
 fn interrupted(rt: &impl Abort, monitor: &mut Monitor, hart: u8, a0: u64) -> bool {
     assert!(rt; hart < 4);
     let mut registers = Registers::new();
@@ -154,19 +154,19 @@ fn interrupted(rt: &impl Abort, monitor: &mut Monitor, hart: u8, a0: u64) -> boo
     load
 }
 
-/// What a call was answered with, and whether the hart's entries are to be loaded anew.
+/// Returns the answer to a call, and whether the hart must reload its entries.
 fn told(served: &Served) -> (i64, u64, bool) {
     (served.answer.status, served.answer.value, served.load)
 }
 
-/// The program counter, a0 and a1 of what goes on on a hart.
+/// Returns the program counter, a0 and a1 of the world that goes on on a hart.
 fn pc_a0_a1(rt: &impl Abort, monitor: &Monitor, hart: u8) -> [u64; 3] {
     assert!(rt; hart < 4);
     let registers = monitor.running(hart);
     [registers.pc(), registers.get(A0), registers.get(A1)]
 }
 
-/// The world on the first hart, and how many entries it needs; and whether each hart is marked.
+/// Returns the world on the first hart, the number of entries that it needs, and whether each hart is marked.
 fn standing(monitor: &Monitor) -> (World, u64, bool, bool) {
     (
         monitor.core.world(0),
@@ -176,14 +176,14 @@ fn standing(monitor: &Monitor) -> (World, u64, bool, bool) {
     )
 }
 
-/// An enclave of one page of text at 0x80200000 is created on the first hart, and the second hart is woken.
+/// Creates an enclave of one page of text at 0x80200000 on the first hart, and wakes the second hart.
 fn created(rt: &impl Abort, monitor: &mut Monitor) {
     let served = served(rt, monitor, 0, 0, [0x8020_0000, 1, 0]);
     monitor.core.wake(1);
     assert!(rt; told(&served) == (0, 1, true));
 }
 
-/// It runs on the first hart.
+/// Runs that enclave on the first hart.
 fn entered(rt: &impl Abort, monitor: &mut Monitor) {
     created(rt, monitor);
     let served = served(rt, monitor, 0, 2, [1, 0, 0]);
@@ -191,7 +191,7 @@ fn entered(rt: &impl Abort, monitor: &mut Monitor) {
     assert!(rt; pc_a0_a1(rt, monitor, 0) == [0x8020_0000, 1, 0]);
 }
 
-/// A creation marks the other hart, and goes on past the call with the id.
+/// Asserts that a creation marks the other hart, and that the host goes on past the call with the id.
 fn creation_marks(rt: &impl Abort, monitor: &mut Monitor) {
     let served = served(rt, monitor, 0, 0, [0x8020_0000, 1, 0]);
     assert!(rt; told(&served) == (0, 1, true));
@@ -200,7 +200,7 @@ fn creation_marks(rt: &impl Abort, monitor: &mut Monitor) {
     assert!(rt; standing(monitor) == (World::Host, 4, false, true));
 }
 
-/// An interrupt stops an enclave, it is resumed on the other hart as it was, and leaves there.
+/// Asserts that an interrupt stops an enclave, that it is resumed unchanged on the other hart, and that it exits there.
 fn interrupt_stops(rt: &impl Abort, monitor: &mut Monitor) {
     entered(rt, monitor);
     assert!(rt; standing(monitor) == (World::Enclave(1), 1, false, false));
@@ -215,7 +215,7 @@ fn interrupt_stops(rt: &impl Abort, monitor: &mut Monitor) {
     assert!(rt; pc_a0_a1(rt, monitor, 1) == [0x8040_0004, 0, 7]);
 }
 
-/// A destruction hands out the pages, and the same call again is refused and changes no entries.
+/// Asserts that a destruction returns the pages, and that the same call is then refused and changes no entries.
 fn destruction_clears(rt: &impl Abort, monitor: &mut Monitor) {
     let pages = PageRange {
         first: 0x8_0200,

@@ -1,4 +1,4 @@
-//! The traps of an enclave that lives on two harts, served from one source to one sink.
+//! The traps of an enclave that lives on two harts, served between one source and one sink.
 
 use crate::firmware::serve_life;
 use byteorder::{ByteOrder, LittleEndian};
@@ -7,7 +7,7 @@ use std::process::Abort;
 use text_lines::Counted;
 use text_lines::fakes::PieceSource;
 
-/// The words of an answer before its lists, and those of a list.
+/// The number of words of an answer before its lists, and that of a list.
 const FRONT: u64 = 23;
 
 const LIST: u64 = 73;
@@ -18,7 +18,7 @@ const EXTENSION: u64 = 0x0845_4E43;
 /// The first page of the enclave.
 const PAGE: u64 = 0x8_0200;
 
-// The tags of frames: words in ASCII, the first letter in the lowest byte.
+// The tags of frames: ASCII words with the first letter in the lowest byte.
 
 const PLATFORM_TAG: u64 = 0x6d72_6f66_7461_6c70;
 
@@ -32,16 +32,16 @@ const PAGE_TAG: u64 = 0x6567_6170;
 
 const ANSWER_TAG: u64 = 0x7265_7773_6e61;
 
-/// The interrupts that each host has enabled (`mie`), and the counters that it lets user mode read (`scounteren`).
+/// The interrupts that each host enables (`mie`), and the counters that user mode may read (`scounteren`).
 const INTERRUPTS: u64 = 0xfff5;
 
 const COUNTERS: u64 = 7;
 
-/// The control words of an enclave under such a host: floating point is open, of the host's interrupts two are enabled
-/// beside the monitor's, and user mode reads the time.
+/// The control words of an enclave under such a host: floating point is enabled, two of the host's interrupts are
+/// enabled besides the monitor's, and user mode may read the time.
 const ENCLAVE_WORDS: [u64; 9] = [0x2_0000_2000, 0, 0x2a8, 2, 0, 0, 0, 0, 0];
 
-/// Words at the end of bytes, the lowest byte of each first.
+/// Appends little-endian words.
 fn put_words(rt: &impl Abort, bytes: &mut Vec<u8>, words: &[u64]) {
     for word in words {
         let mut eight = [0; 8];
@@ -50,7 +50,8 @@ fn put_words(rt: &impl Abort, bytes: &mut Vec<u8>, words: &[u64]) {
     }
 }
 
-/// A platform of two harts with sixteen entries: the monitor's 2 MiB at 0x80000000, in 128 MiB of memory, and a device.
+/// Appends a platform with two harts of sixteen entries: the monitor's 2 MiB at 0x80000000, in 128 MiB of memory, and a
+/// device.
 fn put_platform(rt: &impl Abort, frames: &mut Vec<u8>) {
     let mut words = [0; 167];
     words[0] = PLATFORM_TAG;
@@ -68,7 +69,7 @@ fn put_platform(rt: &impl Abort, frames: &mut Vec<u8>) {
     put_words(rt, frames, &words);
 }
 
-/// A trap on a hart: a call of a function with three arguments, or the timer.
+/// Appends a trap on a hart: a call of a function with three arguments, or the timer.
 fn put_trap(
     rt: &impl Abort,
     frames: &mut Vec<u8>,
@@ -90,8 +91,8 @@ fn put_trap(
     put_words(rt, frames, &words);
 }
 
-/// The first hart creates an enclave of one page and runs it, the timer stops it there, the second hart resumes it, it exits
-/// there with 7, and the first destroys it.
+/// Appends the traps of a life: the first hart creates an enclave of one page and runs it, the timer stops it there,
+/// the second hart resumes it, it exits there with 7, and the first destroys it.
 fn put_life(rt: &impl Abort, frames: &mut Vec<u8>) {
     put_platform(rt, frames);
     put_trap(rt, frames, CALL_TAG, 0, 0, [PAGE * 4096, 1, 0]);
@@ -104,7 +105,7 @@ fn put_life(rt: &impl Abort, frames: &mut Vec<u8>) {
     put_trap(rt, frames, CALL_TAG, 0, 1, [1, 0, 0]);
 }
 
-/// Takes words from the front of what was written.
+/// Asserts that the output begins with these words, and returns the rest.
 fn after<'a>(rt: &impl Abort, alloc: Global, written: &'a [u8], words: &[u64]) -> &'a [u8] {
     let mut front = Vec::new(alloc);
     put_words(rt, &mut front, words);
@@ -113,9 +114,9 @@ fn after<'a>(rt: &impl Abort, alloc: Global, written: &'a [u8], words: &[u64]) -
     &written[front.len()..]
 }
 
-/// Takes an answer: its hart, its world, the status and the value, how many entries there are, the pages to make zero, the
-/// harts that are woken, how many lists of entries are new, at most two, and how many control words are given, which are
-/// an enclave's.
+/// Asserts the head of an answer, and returns the rest after it: its hart, its world, the status and the value, the
+/// number of entries, the pages to zero, the harts that are woken, the number of new lists, at most two, and the number
+/// of control words, which are an enclave's.
 fn after_answer<'a>(
     rt: &impl Abort,
     alloc: Global,
@@ -134,9 +135,9 @@ fn after_answer<'a>(
     after(rt, alloc, rest, &ENCLAVE_WORDS)
 }
 
-/// The answers in turn. The host's list is new at boot, after the creation, with the enclave's, and after the destruction. The
-/// pages of the creation are asked for once, after its answer, and those of the destruction named once. Control words
-/// are given where a host enters the enclave, and nowhere else.
+/// Asserts the answers in turn. The host's list is new at boot, after the creation, with the enclave's, and after the
+/// destruction. The pages of the creation are requested once, after its answer, and those of the destruction are listed
+/// once. Control words are given only when a host enters the enclave.
 fn answers_a_life(rt: &impl Abort, alloc: Global, written: &[u8]) {
     let rest = after_answer(rt, alloc, written, [0, 0, 0, 0, 3, 0, 0, 2, 1, 0]);
     let rest = after_answer(rt, alloc, rest, [0, 0, 0, 1, 4, 0, 0, 2, 2, 0]);

@@ -1,4 +1,4 @@
-//! A bank with OFF entries between its entries, put in place on a hart: no later load brings it back.
+//! Puts a bank with OFF entries between its entries in place on a hart: no later load restores it.
 
 use crate::machines::{answers, example_machine, put};
 use hart_sim::Machine;
@@ -11,7 +11,7 @@ const PMPCFG0: u16 = 0x3A0;
 /// The number of the CSR pmpaddr0.
 const PMPADDR0: u16 = 0x3B0;
 
-/// Copies the first four entries of a bank to the places 0, 2, 4 and 6 of another.
+/// Copies the first four entries of a bank to the positions 0, 2, 4 and 6 of another.
 fn spread_out(rt: &impl Abort, bank: &Bank) -> Bank {
     let mut spread = Bank::of([].as_slice(), Limit::Sixteen);
     for i in 0..4u16 {
@@ -29,7 +29,7 @@ fn spread_out(rt: &impl Abort, bank: &Bank) -> Bank {
     spread
 }
 
-/// The registers of the first four entries.
+/// Returns the registers of the first four entries.
 fn front(bank: &Bank) -> [u64; 5] {
     [
         bank.cfg0(),
@@ -40,7 +40,7 @@ fn front(bank: &Bank) -> [u64; 5] {
     ]
 }
 
-/// The host's entries are spread over OFF places; an enclave runs and exits, and the host's bank is made of them again.
+/// Asserts that the host's bank is compact again after its entries were spread out and an enclave ran and exited.
 fn makes_the_bank_again(rt: &impl Abort, machine: &mut Machine) {
     assert!(rt;
         answers(

@@ -1,4 +1,4 @@
-//! Why a hart loads the list of the host before it starts.
+//! The reason why a hart loads the list of the host before it starts.
 
 ghost use Rattle.library_tests.specs.Starts.{OpensMonitor};
 

@@ -7,7 +7,7 @@ use std::process::Abort;
 
 const A0: usize = 10;
 
-/// Registers with this program counter and this word in a0.
+/// Returns registers with this program counter and this word in a0.
 fn registers_of(pc: u64, a0: u64) -> Registers {
     let mut registers = Registers::new();
     registers.set_pc(pc);
@@ -15,7 +15,7 @@ fn registers_of(pc: u64, a0: u64) -> Registers {
     registers
 }
 
-/// The page at this base, with everything allowed there.
+/// Returns the entry of the page at this base, with all permissions.
 fn page(rt: &impl Abort, base: u64) -> Entry {
     let region = Region::new(base, 12).expect(rt, "a block");
     Entry {
@@ -59,7 +59,7 @@ fn a_hart_loads_each_of_the_entries(rt: HostRuntime) {
     assert!(rt; hart.bank().addr(1) == 0x2000_05FF);
 }
 
-/// Each host and each enclave has registers of its own.
+/// Asserts that each host and each enclave has registers of its own.
 fn keep_apart(rt: &impl Abort, contexts: &mut Contexts) {
     for hart in 0..4u8 {
         contexts.set(hart, World::Host, registers_of(0, 100 + hart as u64));
@@ -75,7 +75,7 @@ fn keep_apart(rt: &impl Abort, contexts: &mut Contexts) {
     }
 }
 
-/// Registers that were never set are all zero.
+/// Asserts that registers that were never set are zero.
 fn begin_at_zero(rt: &impl Abort, contexts: &Contexts) {
     assert!(rt; contexts.get(3, World::Host) == Registers::new());
     assert!(rt; contexts.get(0, World::Enclave(64)) == Registers::new());
@@ -88,7 +88,7 @@ fn each_host_and_each_enclave_has_its_own_registers(rt: HostRuntime) {
     keep_apart(&rt, &mut contexts);
 }
 
-/// The host of the first hart runs the first enclave, which is stopped and resumed.
+/// Asserts the registers while the host of the first hart runs the first enclave, which is stopped and resumed.
 fn goes_on(rt: &impl Abort, contexts: &mut Contexts) {
     let host_entries = [page(rt, 0x8000_0000), page(rt, 0x8000_1000)];
     let enclave_entries = [page(rt, 0x8020_0000)];
@@ -104,14 +104,14 @@ fn goes_on(rt: &impl Abort, contexts: &mut Contexts) {
     assert!(rt; hart.bank().addr(0) == 0x2008_01FF);
     assert!(rt; hart.bank().cfg0() == 0x1F);
 
-    // It is stopped.
+    // The enclave is stopped.
     *hart.registers_mut() = registers_of(0x8020_0040, 7);
     switch(&mut hart, contexts, World::Host, host_entries.as_slice());
     assert!(rt; hart.world() == World::Host);
     assert!(rt; *hart.registers() == registers_of(4, 1));
     assert!(rt; hart.bank().cfg0() == 0x1F1F);
 
-    // It is resumed.
+    // The enclave is resumed.
     switch(&mut hart, contexts, enclave, enclave_entries.as_slice());
     assert!(rt; *hart.registers() == registers_of(0x8020_0040, 7));
     assert!(rt; contexts.get(0, World::Host) == registers_of(4, 1));
@@ -123,7 +123,7 @@ fn a_stopped_enclave_goes_on_where_it_stopped(rt: HostRuntime) {
     goes_on(&rt, &mut contexts);
 }
 
-/// A hart of sixty-four entries, with the host of that number in its registers, goes to the last enclave.
+/// Switches a hart of sixty-four entries, with these registers of its host, to the last enclave.
 fn enters(rt: &impl Abort, hart: &mut Hart, contexts: &mut Contexts, host: Registers) {
     let entries = [page(rt, 0x8020_0000), page(rt, 0x8020_1000)];
     assert!(rt; hart.bank().limit() == Limit::SixtyFour);
@@ -131,7 +131,7 @@ fn enters(rt: &impl Abort, hart: &mut Hart, contexts: &mut Contexts, host: Regis
     switch(hart, contexts, World::Enclave(64), entries.as_slice());
 }
 
-/// It stops there, with these registers, and goes back to its host.
+/// Stops the enclave with these registers, and switches back to the host.
 fn stops(rt: &impl Abort, hart: &mut Hart, contexts: &mut Contexts, enclave: Registers) {
     let entries = [page(rt, 0x8000_0000)];
     assert!(rt; hart.bank().limit() == Limit::SixtyFour);
@@ -139,7 +139,7 @@ fn stops(rt: &impl Abort, hart: &mut Hart, contexts: &mut Contexts, enclave: Reg
     switch(hart, contexts, World::Host, entries.as_slice());
 }
 
-/// The first hart runs the last enclave until it stops. The second one resumes it, until it stops again.
+/// Asserts that the last enclave stops on the first hart, is resumed on the second, and stops there.
 fn returns_to_its_hart(rt: &impl Abort, contexts: &mut Contexts) {
     let entries = [page(rt, 0x8000_0000)];
     let mut first = Hart::new(0, entries.as_slice(), Limit::SixtyFour);

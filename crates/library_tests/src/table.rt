@@ -17,7 +17,7 @@ use pmp_encoding::{Bank, Entry, Perm};
 use std::alloc::Global;
 use std::process::Abort;
 
-/// Pages whose bytes are all zero.
+/// Pages of zeros.
 #[derive(Drop)]
 struct Zeros {}
 
@@ -30,7 +30,7 @@ impl Pages for Zeros {
     }
 }
 
-/// The example platform, with that many entries to a hart.
+/// Returns the example platform with that many entries per hart.
 fn example_platform(rt: &impl Abort, entries: u8) -> Platform {
     Platform::new(
         (0x8000_0000, 0x20_0000),
@@ -42,12 +42,12 @@ fn example_platform(rt: &impl Abort, entries: u8) -> Platform {
     .expect(rt, "entries")
 }
 
-/// The table of the example platform, with that many entries to a hart.
+/// Returns the table of the example platform with that many entries per hart.
 fn example_table(rt: &impl Abort, alloc: Global, entries: u8) -> Table {
     Table::boot(alloc, example_platform(rt, entries)).expect(rt, "memory")
 }
 
-/// One page of text at this address, and nothing else.
+/// Returns the parts of an enclave with one page of text at this address and nothing else.
 fn page_at(base: u64) -> Create {
     Create {
         base,
@@ -59,7 +59,7 @@ fn page_at(base: u64) -> Create {
     }
 }
 
-/// The host creates enclaves of one page each, the next so far after the last.
+/// Creates enclaves of one page each at this distance from one another.
 fn creates_pages(rt: &impl Abort, table: &mut Table, count: u64, apart: u64) {
     for i in 0..count.min(64) {
         let asked = page_at(0x8020_0000 + i * apart.min(0x1_0000));
@@ -67,52 +67,53 @@ fn creates_pages(rt: &impl Abort, table: &mut Table, count: u64, apart: u64) {
     }
 }
 
-/// The table with enclaves of one page each, the next so far after the last.
+/// Returns a table with enclaves of one page each at this distance from one another.
 fn table_of(rt: &impl Abort, alloc: Global, entries: u8, count: u64, apart: u64) -> Table {
     let mut table = example_table(rt, alloc, entries);
     creates_pages(rt, &mut table, count, apart);
     table
 }
 
-/// The host creates an enclave, and is answered so.
+/// Asserts the result of creating an enclave from the host.
 fn creates(rt: &impl Abort, table: &mut Table, asked: Create, wanted: Result<u64, Refusal>) {
     assert!(rt; table.create(World::Host, &Zeros {}, asked) == wanted);
 }
 
-/// The host destroys an enclave, and is answered by the first of its private pages or so refused.
+/// Asserts the first private page, or the refusal, when the host destroys an enclave.
 fn destroys(rt: &impl Abort, table: &mut Table, id: u64, wanted: Result<u64, Refusal>) {
     let answer = table.destroy(World::Host, id).map(|pages| pages.first);
     assert_eq!(rt; answer, wanted, "enclave {id}");
 }
 
-/// The host's view uses that many entries.
+/// Asserts that the host's view uses that many entries.
 fn uses(rt: &impl Abort, table: &Table, wanted: usize) {
     assert!(rt; table.host_entries().len() == wanted);
 }
 
-/// A page has that owner.
+/// Asserts the owner of a page.
 fn owns(rt: &impl Abort, table: &Table, page: u32, wanted: Owner) {
     assert_eq!(rt; table.owner(u64::from(page)), wanted, "page {page:#x}");
 }
 
-/// The bank of the host's entries has this first configuration word.
+/// Asserts the first configuration word of the bank with the host's entries.
 fn configures(rt: &impl Abort, table: &Table, wanted: u64) {
     let bank = Bank::of(table.host_entries(), table.limit());
     assert!(rt; bank.cfg0() == wanted);
 }
 
-/// What the host does with a table, or what is so then.
+/// An action of the host on a table, or an assertion.
 #[derive(Clone, Copy)]
 enum Step {
     Creates(Create, Result<u64, Refusal>),
-    /// That many enclaves, and the tree as if built anew after each.
+    /// Creates that many enclaves, after each of which the tree is as if rebuilt.
     CreatesSideBySide(u64),
-    /// From the first number on as many as the second one says, and the tree as if built anew after each.
+    /// Destroys as many enclaves as the second number, from the first number on, after each of which the tree is as if
+    /// rebuilt.
     DestroysEverySecond(u64, u64),
     Keeps(u64),
     Uses(usize),
     Owns(u32, Owner),
-    /// How many entries an enclave's list has.
+    /// The number of entries in an enclave's list.
     ListsMany(u64, usize),
     Configures(u64),
     /// The host's view and the enclave's own would need that many entries after this creation.
@@ -121,10 +122,10 @@ enum Step {
     WouldNeedWithout(u64, u32),
 }
 
-/// Takes the steps, one after the other.
+/// Performs the steps one after another.
 ///
-/// The tests hand their steps to this one and own no table meanwhile: each call beside a table that is owned has one
-/// more way out to prove, on which the table is dropped.
+/// The tests pass their steps to this function and own no table meanwhile, because each call beside an owned table adds
+/// an exit path to prove, on which the table is dropped.
 fn takes(rt: &impl Abort, alloc: Global, table: &mut Table, steps: &[Step]) {
     for step in steps {
         match *step {
@@ -148,13 +149,13 @@ fn takes(rt: &impl Abort, alloc: Global, table: &mut Table, steps: &[Step]) {
     }
 }
 
-/// Takes the steps on a new table with enclaves of one page each, the next so far after the last.
+/// Performs the steps on a new table with enclaves of one page each at this distance from one another.
 fn takes_on(rt: &impl Abort, alloc: Global, entries: u8, count: u64, apart: u64, steps: &[Step]) {
     let mut table = table_of(rt, alloc, entries, count, apart);
     takes(rt, alloc, &mut table, steps);
 }
 
-/// Whether the entries have these numbers in their address registers.
+/// Returns whether the entries have these address registers.
 fn have_addresses(entries: &[Entry], wanted: &[u64]) -> bool {
     for (entry, address) in entries.iter().zip(wanted) {
         if entry.encode().1 != *address {
@@ -164,7 +165,8 @@ fn have_addresses(entries: &[Entry], wanted: &[u64]) -> bool {
     entries.len() == wanted.len()
 }
 
-/// Whether the list of an enclave has these numbers in its address registers; none where there is no such enclave.
+/// Returns whether the list of an enclave has these address registers, or the enclave does not exist if `wanted` is
+/// `None`.
 fn lists(table: &Table, id: u64, wanted: Option<&[u64]>) -> bool {
     match (table.enclave_entries(id), wanted) {
         (Some(entries), Some(wanted)) => have_addresses(entries, wanted),

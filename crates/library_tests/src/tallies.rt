@@ -1,4 +1,4 @@
-//! Summaries of traces that happened to a machine.
+//! Summaries of traces that were run on a machine.
 
 use crate::machines::example_machine;
 use hart_sim::Machine;
@@ -8,14 +8,14 @@ use text_lines::Direct;
 use text_lines::fakes::{PieceSink, PieceSource};
 use trace_answers::{Tally, asked_of, explain_run, print_summary};
 
-/// What was counted on a machine has this summary.
+/// Asserts the summary of the counts on a machine.
 fn is_summed_up(rt: &impl Abort, tally: &Tally, machine: &Machine, summary: &[u8]) {
     let mut sink = PieceSink::new(100, None);
     assert!(rt; print_summary(tally, machine, &mut sink) == Ok(()));
     assert!(rt; sink.written() == summary);
 }
 
-/// A trace that happens to a new machine has this summary.
+/// Asserts the summary of a trace on a new machine.
 fn sums_up(rt: &impl Abort, alloc: Global, harts: u8, trace: &[u8], summary: &[u8]) {
     let machine = example_machine(rt, alloc, harts);
     let mut source = PieceSource::new(trace, 100, None);
@@ -25,7 +25,7 @@ fn sums_up(rt: &impl Abort, alloc: Global, harts: u8, trace: &[u8], summary: &[u
     is_summed_up(rt, &ran.tally, &ran.machine, summary);
 }
 
-/// What a line says happens to a machine, and is counted.
+/// Performs a line on a machine and counts its event.
 fn count_line(tally: &mut Tally, machine: &mut Machine, line: &[u8]) {
     let Ok(Some((hart, event))) = machine.event_in(line) else {
         return;
@@ -68,7 +68,7 @@ fn nothing_in_numbers(rt: HostRuntime) {
     );
 }
 
-/// An event that is counted by itself on a machine has this summary.
+/// Asserts the summary of one event on a machine.
 fn counts(rt: &impl Abort, machine: &mut Machine, line: &[u8], summary: &[u8]) {
     let mut tally = Tally::new();
     count_line(&mut tally, machine, line);

@@ -10,7 +10,7 @@ use std::rc::Rc;
 
 const PAGES: u64 = 1 << 44;
 
-/// Whether two blocks are split alike, with the same permissions.
+/// Returns whether two blocks are split alike, with the same permissions.
 fn same(one: &Block, other: &Block, height: u32) -> bool {
     match (one.parts(), other.parts()) {
         (Parts::Leaf(perm), Parts::Leaf(wanted)) => perm == wanted,
@@ -21,7 +21,7 @@ fn same(one: &Block, other: &Block, height: u32) -> bool {
     }
 }
 
-/// A page at the bottom, two runs that a page lies between, and the two pages at the top.
+/// A page at the bottom, two runs with a page between them, and the two pages at the top.
 const EXAMPLE: &[(u64, u64, Perm)] = &[
     (0, 1, Perm::Read),
     (16, 16, Perm::ReadWrite),
@@ -29,13 +29,14 @@ const EXAMPLE: &[(u64, u64, Perm)] = &[
     (PAGES - 2, 2, Perm::ReadWriteExecute),
 ];
 
-/// Whether a version is as the tree that is built of the map.
+/// Returns whether a version equals the tree built from the map.
 fn is_built_of(rt: &impl Abort, alloc: Global, version: &Tree, map: &PermissionMap) -> bool {
     let tree = build(alloc, map).expect(rt, "memory");
     version.branches() == tree.branches() && same(version.root(), tree.root(), 44)
 }
 
-/// The version with the range is the tree that is built of the map with the range, and both are refused alike.
+/// Asserts that the version with the range equals the tree built from the map with the range, and that both are refused
+/// alike.
 fn versions_agree(alloc: Global, first: u64, count: u64, perm: Perm, rt: &impl Abort) {
     let mut map = map_of(rt, alloc, EXAMPLE);
     let old = build(alloc, &map).expect(rt, "memory");
@@ -49,18 +50,18 @@ fn versions_agree(alloc: Global, first: u64, count: u64, perm: Perm, rt: &impl A
     }
 }
 
-/// The tree of the map in which these ranges were set: the first page, the number of pages, the permission.
+/// Returns the tree of the map with these ranges: the first page, the number of pages, the permission.
 fn tree_of(rt: &impl Abort, alloc: Global, ranges: &[(u64, u64, Perm)]) -> Tree {
     build(alloc, &map_of(rt, alloc, ranges)).expect(rt, "memory")
 }
 
-/// The tree of the ranges splits that many blocks.
+/// Asserts that the tree of the ranges splits that many blocks.
 fn splits(rt: &impl Abort, alloc: Global, ranges: &[(u64, u64, Perm)], wanted: usize) {
     let tree = tree_of(rt, alloc, ranges);
     assert!(rt; tree.branches() == wanted);
 }
 
-/// The block is not split, and has this permission.
+/// Asserts that the block is a leaf with this permission.
 fn is_leaf(rt: &impl Abort, block: &Block, wanted: Perm) {
     let Parts::Leaf(perm) = block.parts() else {
         panic!(rt; "split");
@@ -68,14 +69,14 @@ fn is_leaf(rt: &impl Abort, block: &Block, wanted: Perm) {
     assert!(rt; perm == wanted);
 }
 
-/// The tree of the ranges is not split, and has this permission.
+/// Asserts that the tree of the ranges is one leaf with this permission.
 fn is_one_leaf(rt: &impl Abort, alloc: Global, ranges: &[(u64, u64, Perm)], wanted: Perm) {
     splits(rt, alloc, ranges, 0);
     let tree = tree_of(rt, alloc, ranges);
     is_leaf(rt, tree.root(), wanted);
 }
 
-/// The block is split in two leaves with these permissions.
+/// Asserts that the block is split into two leaves with these permissions.
 fn has_leaves(rt: &impl Abort, block: &Block, lower: Perm, upper: Perm) {
     let Parts::Halves(low, high) = block.parts() else {
         panic!(rt; "not split");
@@ -93,7 +94,7 @@ const HALVES: &[(u64, u64, Perm)] = &[
     (PAGES / 2, PAGES / 2, Perm::Execute),
 ];
 
-/// The tree of the halves splits the space, and no block of it.
+/// Asserts that the tree of the halves splits only the whole space.
 fn is_split_once(rt: &impl Abort, alloc: Global) {
     splits(rt, alloc, HALVES, 1);
     let tree = tree_of(rt, alloc, HALVES);
@@ -135,7 +136,7 @@ fn versions_are_as_built_afresh(rt: HostRuntime) {
     }
 }
 
-/// Whether two trees have the same halves of the upper half of the space, where both split it.
+/// Returns whether two trees share the halves of the upper half of the space, if both split it.
 fn share_upper_halves(one: &Tree, other: &Tree) -> Option<bool> {
     let (Block::Branch(one), Block::Branch(other)) = (one.root(), other.root()) else {
         return None;
@@ -146,8 +147,8 @@ fn share_upper_halves(one: &Tree, other: &Tree) -> Option<bool> {
     Some(Rc::ptr_eq(one, other))
 }
 
-/// Whether the version of the example with the range shares the upper half of the upper half with its tree; both split
-/// it.
+/// Asserts whether the version of the example with the range shares the upper half of the upper half with its tree;
+/// both split it.
 fn shares(rt: &impl Abort, alloc: Global, first: u64, count: u64, wanted: bool) {
     let tree = tree_of(rt, alloc, EXAMPLE);
     let version = tree
@@ -162,7 +163,7 @@ fn what_the_range_does_not_meet_is_shared(rt: HostRuntime) {
     shares(&rt, rt.alloc(), PAGES - 1, 1, false);
 }
 
-/// Sets as many runs as a map has at most, each of one page.
+/// Sets as many runs as a map may have, each of one page.
 fn set_most_runs(rt: &impl Abort, map: &mut PermissionMap) {
     for i in 0..4096u64 {
         map.set_range(i * 0x1_0000_0000, 1, Perm::Read)
@@ -170,7 +171,7 @@ fn set_most_runs(rt: &impl Abort, map: &mut PermissionMap) {
     }
 }
 
-/// Why there is no version with the range; none where there is one.
+/// Asserts why there is no version with the range, or that there is one if the fault is `None`.
 fn refuses(
     rt: &impl Abort,
     tree: &Tree,
@@ -182,7 +183,7 @@ fn refuses(
     assert!(rt; tree.with_range(first, count, perm).err() == wanted);
 }
 
-/// The tree splits that many blocks, and has no version with one run more.
+/// Asserts that the tree splits that many blocks, and has no version with one more run.
 fn is_full(rt: &impl Abort, tree: &Tree) {
     assert!(rt; tree.branches() == 4095 + 4096 * 32);
     refuses(rt, tree, 2, 1, Perm::Read, Some(MapFault::TooManyRanges));
@@ -198,7 +199,7 @@ fn most_ranges_build_and_one_more_is_refused(rt: HostRuntime) {
     assert!(rt; map.set_range(2, 1, Perm::Read).err() == Some(MapFault::TooManyRanges));
 }
 
-/// Keeps a version of the last tree, in which one page more can be read.
+/// Appends a version of the last tree in which one more page is readable.
 fn push_next_version(rt: &impl Abort, versions: &mut Vec<Tree>, page: u64) {
     let last = versions.last().expect(rt, "a version");
     let next = last.with_range(page, 1, Perm::Read).expect(rt, "memory");

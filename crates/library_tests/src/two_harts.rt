@@ -1,4 +1,4 @@
-//! An enclave lives on two harts, and what the headline says of it.
+//! Applies the headline to an enclave that lives on two harts.
 
 use crate::headline::life;
 use crate::machines::example_machine;
@@ -10,7 +10,7 @@ use std::process::Abort;
 /// The monitor's extension, in a7.
 const EXTENSION: u64 = 0x0845_4E43;
 
-/// The words of a call: a7, a6, a0 and a1.
+/// Returns the words of a call: a7, a6, a0 and a1.
 fn words(function: u64, first: u64, second: u64) -> ArrayVec<u64, 8> {
     let mut words = ArrayVec::new();
     words.push(EXTENSION);
@@ -29,7 +29,7 @@ fn answered(value: u64, world: u64, used: u64) -> Reply {
     }
 }
 
-/// An enclave lives on both harts, and these are the replies.
+/// Asserts the replies to the life of an enclave on both harts.
 fn lives_on_both(rt: &impl Abort, machine: &mut Machine) {
     assert!(rt; machine.harts() == 2);
     let replies = life(

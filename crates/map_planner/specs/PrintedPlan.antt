@@ -1,4 +1,4 @@
--- The plan of the map that a source holds, printed.
+-- The plan of the map that a source contains, printed.
 use Rattle.std.specs.Prelude.{ℕ, ◌<◌, ◌≤◌, ◌^◌, List, Option, length}
 use Rattle.std.specs.Io.KnownBytes.{Consumes, IsAtEnd}
 use Rattle.text_lines.specs.Writings.{Breaks, TakesAll, Writing}
@@ -14,8 +14,8 @@ use Rattle.map_text.specs.MapFile.{FaultAt, Makes}
 use Rattle.map_text.specs.Plans.{IsPlanText}
 use Rattle.pmp_encoding.specs.declared.xlen.Xlen.TheVariants.{Rv64}
 
--- the plan of the map that the bytes of a map file make: of the lists of fewest entries the one
--- that is chosen, in its order; a hart of sixteen entries has room for it
+-- the plan of the map in the bytes of a map file: among the lists of fewest entries the one that is
+-- chosen, in its order; a hart with sixteen entries has room for it
 pub record IsPlanOf (bytes : List ℕ) (entries : List Entry) : Type 0 where
   pub map : List Run
   pub makes : Makes bytes map
@@ -24,7 +24,7 @@ pub record IsPlanOf (bytes : List ℕ) (entries : List Entry) : Type 0 where
   pub order : AreInOrder entries
   pub fits : length entries ≤ 16
 
--- a source was read to its end, at most 1 MiB
+-- a source was read to its end, and has at most 1 MiB
 pub record IsRead (before after : Option (List ℕ)) (bytes : List ℕ) : Type 0 where
   pub consumed : Consumes before after bytes
   pub at_end : IsAtEnd after
@@ -34,18 +34,18 @@ pub record IsRead (before after : Option (List ℕ)) (bytes : List ℕ) : Type 0
 abbrev pub IsTooLarge : Option (List ℕ) → Option (List ℕ) → Type 0
 IsTooLarge before after = (bytes : List ℕ) × Consumes before after bytes × (2 ^ 20 < length bytes)
 
--- the first line at fault of a map file, which was read to its end
+-- the first invalid line of a map file that was read to its end
 abbrev pub HasFault : Option (List ℕ) → Option (List ℕ) → ℕ
     → (List Run → Option (Option Run) → Type 0) → Type 0
 HasFault before after n fault = (bytes : List ℕ) × IsRead before after bytes × FaultAt bytes n fault
 
--- the map that the bytes of a map file make needs more than sixteen entries
+-- the map in the bytes of a map file needs more than sixteen entries
 abbrev pub NeedsMore : List ℕ → Type 0
 NeedsMore bytes = (map : List Run) × Makes bytes map × (n : ℕ) × Needs (view_of_runs map) n
     × (16 < n)
 
--- a source was read to its end, and the text is that of the plan of its map, on a hart of RV64 with
--- sixteen entries
+-- a source was read to its end, and the text is the plan of its map for an RV64 hart with sixteen
+-- entries
 pub record IsPlanTextOf (before after : Option (List ℕ)) (text : List ℕ) : Type 0 where
   pub bytes : List ℕ
   pub read : IsRead before after bytes
@@ -57,6 +57,6 @@ pub record IsPlanTextOf (before after : Option (List ℕ)) (text : List ℕ) : T
 abbrev pub PrintsPlan : {W : Type 0} → Option (List ℕ) → Option (List ℕ) → Writing W → Type 0
 PrintsPlan before after out = (text : List ℕ) × IsPlanTextOf before after text × TakesAll text out
 
--- a beginning of it was written, not all of it
+-- a proper prefix of the plan was written
 abbrev pub BreaksOff : {W : Type 0} → Option (List ℕ) → Option (List ℕ) → Writing W → Type 0
 BreaksOff before after out = (text : List ℕ) × IsPlanTextOf before after text × Breaks text out

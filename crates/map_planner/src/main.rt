@@ -1,7 +1,8 @@
-//! The plan of one map and nothing else: what a first start proves before the rest of `pmpmon`.
+//! Plans one map and does nothing else, so that a first run proves it before the rest of `pmpmon`.
 //!
-//! `map_planner MAP` prints what `pmpmon plan MAP` prints. Where more has to be said, since the file can't be read, is no map or needs
-//! more than sixteen entries, or memory is refused, it ends with status 1 and prints nothing: `pmpmon` says it.
+//! `map_planner MAP` prints the same as `pmpmon plan MAP`. If there is anything else to report, because the file cannot
+//! be read, is not a map or needs more than sixteen entries, or an allocation fails, it prints nothing and exits with
+//! status 1, and `pmpmon` reports it.
 #![tactic(auto)]
 
 mod printed_plan;
@@ -12,13 +13,13 @@ use std::env;
 use std::process::ExitCode;
 use text_lines::{Counted, HeldSink};
 
-/// The status where there is no plan to print.
+/// The status if no plan is printed.
 const NO_PLAN: u8 = 1;
 
-/// The status where standard output could not be written.
+/// The status if standard output cannot be written.
 const NO_OUTPUT: u8 = 3;
 
-/// Prints the plan of the map of that name.
+/// Prints the plan of the named map.
 fn print_plan_of(rt: &HostRuntime, name: &str) -> Result<(), PlanFault> {
     let mut file = Counted::new(FileToRead::new(rt, name));
     let out = RetryInterrupted::new(rt.stdout());

@@ -1,4 +1,4 @@
-//! The plan of the map that a source holds, printed.
+//! Plans the map that a source contains, and prints the plan.
 
 ghost use Rattle.std.specs.Prelude.{◌≡◌, ◌≢◌, ℕ, ◌-◌, ◌^◌, ◌<◌, List, Err, IfErr, IfOk, OnOk, length};
 ghost use Rattle.text_lines.specs.Streams.{GrowsByOne};
@@ -13,22 +13,22 @@ use program_files::read_whole;
 use std::alloc::Global;
 use text_lines::{DeviceFault, Sink, Source, SourceFault};
 
-/// Why a plan is not printed whole.
+/// The reason why a plan is not printed whole.
 #[derive(Clone, Copy, Debug)]
 pub enum PlanFault {
-    /// The source could not be read whole: at most 1 MiB.
+    /// The source could not be read, or has more than 1 MiB.
     Source(SourceFault),
-    /// Its bytes make no map.
+    /// The bytes are not a valid map.
     Map(MapFileFault),
     /// The map needs more than sixteen entries.
     TooManyEntries,
-    /// Memory was refused.
+    /// An allocation failed.
     Memory,
-    /// The sink failed, or took none of some bytes.
+    /// The sink failed, or accepted none of the bytes of a write.
     NotWritten,
 }
 
-/// The plan of the map that the bytes of a map file make, where it has at most sixteen entries.
+/// Plans the map in the bytes of a map file, if it needs at most sixteen entries.
 fn plan_of(alloc: Global, bytes: &[u8]) -> Result<Plan<PackedEntry>, PlanFault>
     requires { length bytes.now < 2 ^ 64 - 1 }
     ensures plan { IfOk result (λ plan. IsPlanOf bytes.now plan.entries) }
@@ -55,8 +55,8 @@ fn plan_of(alloc: Global, bytes: &[u8]) -> Result<Plan<PackedEntry>, PlanFault>
     Ok(plan)
 }
 
-/// Prints the plan of the map that a source holds, for a hart of RV64 with sixteen entries. Nothing is printed before the plan is
-/// there.
+/// Prints the plan of the map that a source contains, for an RV64 hart with sixteen entries. Prints nothing before the
+/// plan is complete.
 pub fn print_plan_in<R: Source, W: Sink>(
     alloc: Global,
     source: &mut R,

@@ -14,35 +14,35 @@ use Rattle.map_table.specs.Heads.{head_begin, head_below, head_end, head_rules, 
 use Rattle.map_table.specs.SharedTexts.{kept_bits, shared_word_count}
 use Rattle.map_table.specs.RegisterRows.{rows_text}
 
--- the label of a routine, where it has a name
+-- the name of a routine, if it has one
 abbrev pub label_of : Option (List ℕ) → List ℕ
 label_of None = []
 label_of (Some name) = name
 
--- and what ends it
+-- the rest of its label
 abbrev pub label_end : Option (List ℕ) → List ℕ
 label_end None = []
 label_end (Some name) = codes "_load:\n"
 
--- what is at the head, with that label
+-- the head of assembly, with this label
 abbrev pub asm_head : Xlen → ℕ → List ℕ → List ℕ → List ℕ
 asm_head xlen first label end = concat (head_begin ∷ head_width xlen ∷ head_rules ∷ head_below first
     ∷ head_end ∷ label ∷ end ∷ [])
 
--- which registers are changed
+-- the note on the registers that the code changes
 abbrev pub asm_registers_note : Xlen → Limit → ℕ → List ℕ
 asm_registers_note xlen limit first =
     if shared_word_count xlen limit first == 0 then codes "/* Only t0 is changed. */\n"
     else codes "/* Only t0 and t1 are changed. */\n"
 
--- an instruction that the other width lacks: for RV64 one that changes nothing, and for RV32 one
--- that is passed over
+-- an instruction that the other width lacks: for RV64 one without effect, and for RV32 one that is
+-- jumped over
 abbrev pub asm_guard : Xlen → List ℕ
 asm_guard Rv32 =
     codes "    j       1f /* over what an assembler for RV64 refuses */\n    rdtimeh zero\n1:\n"
 asm_guard Rv64 = codes "    addiw   zero, zero, 0 /* an assembler for RV32 refuses this */\n"
 
--- both
+-- the note and the guard instruction
 abbrev pub asm_begin : Xlen → Limit → ℕ → List ℕ
 asm_begin xlen limit first = asm_registers_note xlen limit first ++ asm_guard xlen
 
@@ -53,14 +53,14 @@ asm_address_row xlen first entries i =
     ++ codes " /* " ++ note_text (first + i) (slice_get entries i) ++ codes " */\n")
     ++ (codes "    csrw    pmpaddr" ++ decimal (first + i) ++ codes ", t0\n")
 
--- those that read a shared word, and keep the bits of the entries below the first
+-- the instructions that read a shared word, and keep the bits of the entries below the first
 abbrev pub asm_shared_read : Xlen → ℕ → List ℕ
 asm_shared_read xlen first =
     codes "    csrr    t1, pmpcfg" ++ decimal (word_number xlen (first / word_entries xlen))
     ++ codes "\n    li      t0, 0x" ++ register_text xlen (kept_bits xlen first)
     ++ codes "\n    and     t1, t1, t0\n"
 
--- and those that write them with the bytes of the list
+-- the instructions that write these bits together with the bytes of the list
 abbrev pub asm_shared_write : Xlen → ℕ → List Entry → List ℕ
 asm_shared_write xlen first entries =
     codes "    li      t0, 0x" ++ register_text xlen
@@ -68,12 +68,12 @@ asm_shared_write xlen first entries =
     ++ codes "\n    or      t0, t0, t1\n    csrw    pmpcfg"
     ++ decimal (word_number xlen (first / word_entries xlen)) ++ codes ", t0\n"
 
--- the write of the word that is shared
+-- the write of the shared word
 abbrev pub asm_shared_row : Xlen → ℕ → List Entry → ℕ → List ℕ
 asm_shared_row xlen first entries i =
     asm_shared_read xlen first ++ asm_shared_write xlen first entries
 
--- those that write a word which has no entry below the first
+-- the instructions that write a word without an entry below the first
 abbrev pub asm_word_row : Xlen → ℕ → List Entry → ℕ → List ℕ
 asm_word_row xlen first entries i =
     (codes "    li      t0, 0x" ++ register_text xlen
@@ -81,14 +81,14 @@ asm_word_row xlen first entries i =
     ++ (codes "    csrw    pmpcfg" ++ decimal (word_number xlen (whole_word xlen first + i))
     ++ codes ", t0\n")
 
--- all words that have an entry from the first on, in which those after the list are off
+-- all words with an entry from the first on, in which those after the list are off
 abbrev pub asm_words : Xlen → Limit → ℕ → List Entry → List ℕ
 asm_words xlen limit first entries =
     rows_text (asm_shared_row xlen first entries) 0 (shared_word_count xlen limit first)
     ++ rows_text (asm_word_row xlen first entries) 0
     (word_count xlen limit - whole_word xlen first)
 
--- the last instruction, and after it the end of a routine
+-- the last instruction, and the end of the routine if it has a name
 abbrev pub asm_end : Option (List ℕ) → List ℕ
 asm_end None = codes "    sfence.vma\n"
 asm_end (Some name) = codes "    sfence.vma\n    ret\n"
@@ -102,6 +102,6 @@ asm_text name xlen limit first entries =
     ++ (asm_words xlen limit first entries
     ++ asm_end name))
 
--- the text of entries that are on a hart from `first` on
+-- the text of entries on a hart from `first` on
 abbrev pub IsAsmText : Option (List ℕ) → Xlen → Limit → ℕ → List Entry → List ℕ → Type 0
 IsAsmText name xlen limit first entries text = text ≡ asm_text name xlen limit first entries

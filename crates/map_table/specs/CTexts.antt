@@ -16,8 +16,8 @@ use Rattle.map_table.specs.Heads.{head_begin, head_below, head_end, head_rules, 
 use Rattle.map_table.specs.SharedTexts.{kept_bits, shared_word_count}
 use Rattle.map_table.specs.RegisterRows.{rows_text}
 
--- what comes before the arrays: a compiler for RISC-V of the other width refuses the text; one for
--- another processor does not
+-- the text before the arrays: a RISC-V compiler for the other width rejects it; a compiler for
+-- another processor accepts it
 abbrev pub c_begin : Xlen → List ℕ
 c_begin Rv32 =
     codes "#if defined(__riscv) && __riscv_xlen != 32\n#error \"these are the registers of RV32\"\n#endif\n\n#include <stdint.h>\n\nstatic const uint32_t "
@@ -35,12 +35,12 @@ c_address_row xlen first entries i =
     codes "    0x" ++ register_text xlen (address_or_zero (entry_from first entries i))
     ++ codes ", /* " ++ place_text first i (entry_from first entries i) ++ codes " */\n"
 
--- its end, and the beginning of the array of configuration words
+-- the end of that array, and the beginning of the array of configuration words
 abbrev pub c_between : Xlen → List ℕ
 c_between Rv32 = codes "};\n\nstatic const uint32_t "
 c_between Rv64 = codes "};\n\nstatic const uint64_t "
 
--- the rest of its name, and its size
+-- the rest of the array's name, and its size
 abbrev pub c_words_size : Xlen → Limit → List ℕ
 c_words_size Rv32 Sixteen = codes "cfg[4] = {\n"
 c_words_size Rv32 SixtyFour = codes "cfg[16] = {\n"
@@ -53,8 +53,8 @@ c_word_row xlen first entries i =
     (codes "    0x" ++ register_text xlen (word_from xlen first entries i))
     ++ (codes ", /* pmpcfg" ++ decimal (word_number xlen i) ++ codes " */\n")
 
--- all address registers of a hart, each with its entry, that it is off, or that it is left as it
--- is, and all configuration words
+-- all address registers of a hart, each with its entry, or the note that it is off or unchanged,
+-- and all configuration words
 abbrev pub c_arrays : List ℕ → List ℕ → Xlen → Limit → ℕ → List Entry → List ℕ
 c_arrays prefix link xlen limit first entries =
     (concat (head_begin ∷ head_width xlen ∷ head_rules ∷ head_below first ∷ head_end ∷ c_begin xlen
@@ -63,15 +63,15 @@ c_arrays prefix link xlen limit first entries =
     ++ (concat (c_between xlen ∷ prefix ∷ link ∷ c_words_size xlen limit ∷ [])
     ++ rows_text (c_word_row xlen first entries) 0 (word_count xlen limit))
 
--- the end of the second array, and what comes before the number of entries
+-- the end of the second array, and the text before the number of entries
 abbrev pub c_count_begin : List ℕ
 c_count_begin = codes "};\n\n/* How many entries are in use; those after them are off. */\nenum { "
 
--- what is said of the function that writes the registers
+-- the beginning of the comment on the function that writes the registers
 abbrev pub c_loader_note : List ℕ
 c_loader_note = codes " };\n\n#ifdef __riscv\n/*\n"
 
--- which of them it writes
+-- the comment on the registers that it writes
 abbrev pub c_loader_writes : ℕ → List ℕ
 c_loader_writes first =
     if first == 0
@@ -81,7 +81,7 @@ c_loader_writes first =
     ++ codes " * they are, and so are their bytes of a configuration word that they share with these.\n"
     ++ codes " * Machine mode calls it on each hart, with mstatus.MPRV = 0.\n"
 
--- in which order, and why
+-- the comment on the order of the writes
 abbrev pub c_loader_reason : List ℕ
 c_loader_reason =
     codes " * The addresses are written first, so that no configuration word switches an entry\n"
@@ -97,29 +97,29 @@ abbrev pub c_address_write : ℕ → ℕ → List ℕ
 c_address_write first i = codes "    __asm__ volatile(\"csrw pmpaddr" ++ decimal (first + i)
     ++ codes ", %0\" : : \"r\"(addr[" ++ decimal (first + i) ++ codes "]));\n"
 
--- what comes before the number of a shared word
+-- the text before the number of a shared word
 abbrev pub c_shared_read_begin : Xlen → List ℕ
 c_shared_read_begin Rv32 = codes "    uint32_t kept;\n    __asm__ volatile(\"csrr %0, pmpcfg"
 c_shared_read_begin Rv64 = codes "    uint64_t kept;\n    __asm__ volatile(\"csrr %0, pmpcfg"
 
--- those that read a shared word, and keep the bits of the entries below the first
+-- the instructions that read a shared word, and keep the bits of the entries below the first
 abbrev pub c_shared_read : Xlen → ℕ → List ℕ
 c_shared_read xlen first =
     c_shared_read_begin xlen ++ decimal (word_number xlen (first / word_entries xlen))
     ++ codes "\" : \"=r\"(kept));\n    kept &= 0x" ++ register_text xlen (kept_bits xlen first)
     ++ codes ";\n"
 
--- and the one that writes them with the bytes of the list
+-- the instruction that writes these bits together with the bytes of the list
 abbrev pub c_shared_write : Xlen → ℕ → List ℕ
 c_shared_write xlen first = codes "    __asm__ volatile(\"csrw pmpcfg"
     ++ decimal (word_number xlen (first / word_entries xlen))
     ++ codes ", %0\" : : \"r\"(kept | cfg[" ++ decimal (first / word_entries xlen) ++ codes "]));\n"
 
--- the write of the word that is shared
+-- the write of the shared word
 abbrev pub c_shared_row : Xlen → ℕ → ℕ → List ℕ
 c_shared_row xlen first i = c_shared_read xlen first ++ c_shared_write xlen first
 
--- one that writes another configuration word: ` __asm__ volatile("csrw pmpcfg2, %0" : :
+-- an instruction that writes another configuration word: ` __asm__ volatile("csrw pmpcfg2, %0" : :
 -- "r"(cfg[1]));`
 abbrev pub c_word_write : Xlen → ℕ → ℕ → List ℕ
 c_word_write xlen first i =
@@ -127,15 +127,15 @@ c_word_write xlen first i =
     ++ decimal (word_number xlen (whole_word xlen first + i)) ++ codes ", %0\" : : \"r\"(cfg["
     ++ decimal (whole_word xlen first + i) ++ codes "]));\n"
 
--- the last instruction, and the end
+-- the last instruction, and the end of the function
 abbrev pub c_loader_end : List ℕ
 c_loader_end = codes "    __asm__ volatile(\"sfence.vma\" : : : \"memory\");\n}\n#endif\n"
 
--- what comes between the name of the number of entries and that number
+-- the text between the name of the number of entries and the number
 abbrev pub c_count_is : List ℕ
 c_count_is = codes "_count = "
 
--- the head of the function, which has names of its own for the arrays
+-- the head of the function, which has its own names for the arrays
 abbrev pub c_load_addresses : Xlen → List ℕ
 c_load_addresses Rv32 = codes "_load(void)\n{\n    const uint32_t *addr = "
 c_load_addresses Rv64 = codes "_load(void)\n{\n    const uint64_t *addr = "
@@ -149,7 +149,7 @@ c_load_words Rv64 = codes "addr;\n    const uint64_t *cfg = "
 abbrev pub c_load_begin : List ℕ
 c_load_begin = codes "cfg;\n\n"
 
--- what comes before the instructions: how many entries there are, and that head
+-- the text before the instructions: the number of entries, and that head
 abbrev pub c_loader_begin : List ℕ → List ℕ → Xlen → ℕ → List ℕ → List ℕ
 c_loader_begin prefix link xlen first count =
     concat (
@@ -158,7 +158,7 @@ c_loader_begin prefix link xlen first count =
     ∷ prefix ∷ link ∷ c_load_begin ∷ []
     )
 
--- all words that have an entry from the first on
+-- all words with an entry from the first on
 abbrev pub c_word_writes : Xlen → Limit → ℕ → List ℕ
 c_word_writes xlen limit first = rows_text (c_shared_row xlen first) 0
     (shared_word_count xlen limit first) ++ rows_text (c_word_write xlen first) 0
@@ -173,12 +173,12 @@ c_loader prefix link xlen limit first count =
     ++ (c_word_writes xlen limit first
     ++ c_loader_end)
 
--- the arrays, and after them what writes them
+-- the arrays, followed by the function that writes them
 abbrev pub c_text : Option (List ℕ) → Xlen → Limit → ℕ → List Entry → List ℕ
 c_text name xlen limit first entries =
     c_arrays (prefix_of name) (array_link name) xlen limit first entries
     ++ c_loader (prefix_of name) (array_link name) xlen limit first (decimal (length entries))
 
--- the text of entries that are on a hart from `first` on
+-- the text of entries on a hart from `first` on
 abbrev pub IsCText : Option (List ℕ) → Xlen → Limit → ℕ → List Entry → List ℕ → Type 0
 IsCText name xlen limit first entries text = text ≡ c_text name xlen limit first entries

@@ -9,7 +9,7 @@ use Rattle.text_lines.specs.Written.{hex}
 use Rattle.map_table.specs.declared.stretch.Stretch.{Stretch}
 use Rattle.map_table.specs.Rows.{overridden_from}
 
--- whether a hart of that limit has that many entries
+-- the text on whether a hart with this limit has enough entries
 abbrev pub json_fits : ℕ → Limit → List ℕ
 json_fits n limit = if nat_le n (limit_number limit)
     then codes ",\n  \"fits\": true,\n  \"stretches\": ["
@@ -32,23 +32,23 @@ abbrev pub numbers_more : List ℕ → List ℕ
 numbers_more [] = []
 numbers_more (n ∷ numbers) = codes ", " ++ (decimal n ++ numbers_more numbers)
 
--- numbers with a comma between them
+-- numbers separated by commas
 abbrev pub numbers_text : List ℕ → List ℕ
 numbers_text [] = []
 numbers_text (n ∷ numbers) = decimal n ++ numbers_more numbers
 
--- an entry that decides a stretch, and all those that it overrides there
+-- the entry that decides a stretch, and all those that it overrides there
 abbrev pub json_decider : List Extent → Stretch → ℕ → List ℕ
 json_decider extents s i = decimal i
     ++ (codes ", \"overridden\": [" ++ (numbers_text
     (overridden_from (i + 1) (drop (i + 1) extents) s) ++ codes "]}"))
 
--- the entry that decides a stretch, or that there is none
+-- the entry that decides a stretch, or `null`
 abbrev pub json_entry : List Extent → Stretch → Option ℕ → List ℕ
 json_entry extents s None = codes "null, \"overridden\": []}"
 json_entry extents s (Some i) = json_decider extents s i
 
--- what is said of a stretch
+-- the row of a stretch
 abbrev pub json_row : List Extent → Stretch → List ℕ
 json_row extents s = json_stretch s ++ json_entry extents s s.entry
 
@@ -58,7 +58,7 @@ json_more extents [] = []
 json_more extents (s ∷ stretches) = codes ",\n"
     ++ (json_row extents s ++ json_more extents stretches)
 
--- stretches with a comma between them
+-- stretches separated by commas
 abbrev pub json_rows : List Extent → List Stretch → List ℕ
 json_rows extents [] = []
 json_rows extents (s ∷ stretches) = codes "\n"

@@ -1,7 +1,7 @@
 -- A plan as JSON.
-use Rattle.std.specs.Prelude.{◌≡◌, ℕ, ◌+◌, ◌-◌, ◌^◌, ◌<◌, ◌≤◌, ◌==◌, nat_lt, if◌then◌else◌, List}
-use Rattle.std.specs.Prelude.{[], ◌∷◌, ◌++◌, Option, Some, None, codes, decimal, length, slice_get}
-use Rattle.std.specs.Prelude.{slice_index}
+use Rattle.std.specs.Prelude.{◌≡◌, ℕ, ◌+◌, ◌-◌, ◌^◌, ◌<◌, ◌≤◌, ◌==◌, nat_le, nat_lt, List}
+use Rattle.std.specs.Prelude.{if◌then◌else◌, [], ◌∷◌, ◌++◌, Option, Some, None, codes, decimal}
+use Rattle.std.specs.Prelude.{length, slice_get, slice_index}
 use Rattle.pmp_encoding.specs.declared.limit.Limit.{Limit}
 use Rattle.pmp_encoding.specs.declared.limit.Limit.TheVariants.{Sixteen, SixtyFour}
 use Rattle.pmp_encoding.specs.declared.region.Entry.{Entry}
@@ -22,11 +22,11 @@ abbrev pub json_byte : ℕ → List ℕ
 json_byte b = if b == 34 then codes "\\\"" else if b == 92 then codes "\\\\" else if nat_lt b 32
     then codes "\\u" ++ hex 4 b else b ∷ []
 
--- what comes before an item of a list: a comma where it is not the first, and a line's end
+-- the text before an item of a list: a comma if it is not the first, and a newline
 abbrev pub json_before : ℕ → List ℕ
 json_before i = if i == 0 then codes "\n" else codes ",\n"
 
--- the name of the map, and what comes before it
+-- the text before the name of the map
 abbrev pub json_map_begin : List ℕ
 json_map_begin = codes "{\n  \"map\": \""
 
@@ -39,19 +39,24 @@ abbrev pub json_limit : Limit → List ℕ
 json_limit Sixteen = codes "\",\n  \"limit\": 16,\n"
 json_limit SixtyFour = codes "\",\n  \"limit\": 64,\n"
 
--- the entry of the hart at which the list begins, where that is not entry 0
+-- the number of the first entry, if it is not 0
 abbrev pub json_first : ℕ → List ℕ
 json_first first = if first == 0 then [] else codes "  \"first\": " ++ decimal first ++ codes ",\n"
 
--- the width, where it is not that of RV64
+-- the width, unless it is that of RV64
 abbrev pub json_width : Xlen → List ℕ
 json_width Rv32 = codes "  \"xlen\": 32,\n"
 json_width Rv64 = []
 
--- all three, and what comes before the entries
-abbrev pub json_entries_begin : Xlen → Limit → ℕ → List ℕ
-json_entries_begin xlen limit first = json_limit limit ++ json_width xlen ++ json_first first
-    ++ codes "  \"entries\": ["
+-- whether the hart has room for that many entries, beginning at the first
+abbrev pub json_fits : ℕ → Limit → ℕ → List ℕ
+json_fits n limit first = if nat_le n (limit_number limit - first)
+    then codes "  \"fits\": true,\n" else codes "  \"fits\": false,\n"
+
+-- the limit, the width, the first entry and whether they fit, and the text before the entries
+abbrev pub json_entries_begin : Xlen → Limit → ℕ → ℕ → List ℕ
+json_entries_begin xlen limit first n = json_limit limit ++ json_width xlen ++ json_first first
+    ++ json_fits n limit first ++ codes "  \"entries\": ["
 
 -- the number and the pair of the list's entry i
 abbrev pub json_registers : Xlen → ℕ → ℕ → Entry → List ℕ
@@ -59,12 +64,12 @@ json_registers xlen first i e =
     json_before i ++ codes "    {\"index\": " ++ decimal (first + i) ++ codes ", \"cfg\": "
     ++ decimal (cfg_of e) ++ codes ", \"addr\": \"0x" ++ register_text xlen (address_of e)
 
--- its region in bytes, and what may be done there
+-- the region of an entry in bytes, and its permission
 abbrev pub json_region : Entry → List ℕ
 json_region e = codes "\", \"base\": \"0x" ++ hex 16 e.region.base ++ codes "\", \"size\": "
     ++ decimal (2 ^ e.region.log2) ++ codes ", \"perm\": \"" ++ perm_word e.perm ++ codes "\"}"
 
--- an entry: both of these
+-- an entry: its registers and its region
 abbrev pub json_entry : Xlen → ℕ → ℕ → Option Entry → List ℕ
 json_entry xlen first i (Some e) = json_registers xlen first i e ++ json_region e
 json_entry xlen first i None = []
@@ -73,7 +78,7 @@ json_entry xlen first i None = []
 abbrev pub json_entry_row : Xlen → ℕ → List Entry → ℕ → List ℕ
 json_entry_row xlen first entries i = json_entry xlen first i (slice_get entries i)
 
--- what comes before the configuration words
+-- the text before the configuration words
 abbrev pub json_words_begin : List ℕ
 json_words_begin = codes "\n  ],\n  \"pmpcfg\": ["
 
@@ -82,16 +87,16 @@ abbrev pub json_word_row : Xlen → ℕ → List Entry → ℕ → List ℕ
 json_word_row xlen first entries i = json_before i ++ codes "    \"0x"
     ++ register_text xlen (word_from xlen first entries i) ++ codes "\""
 
--- the object, with that many words
+-- the object, with this number of words
 abbrev pub json_text : List ℕ → Xlen → Limit → ℕ → List Entry → ℕ → List ℕ
 json_text name xlen limit first entries words =
     (json_map_begin ++ rows_text (json_name_row name) 0 (length name))
-    ++ ((json_entries_begin xlen limit first
+    ++ ((json_entries_begin xlen limit first (length entries)
     ++ rows_text (json_entry_row xlen first entries) 0 (length entries))
     ++ ((json_words_begin ++ rows_text (json_word_row xlen first entries) 0 words)
     ++ codes "\n  ]\n}\n"))
 
--- the object, with all words of the hart, and with none where it has no room for the entries
+-- the object, with all words of the hart, or with none if it has no room for the entries
 pub record IsJsonText (name : List ℕ) (xlen : Xlen) (limit : Limit) (first : ℕ)
     (entries : List Entry) (text : List ℕ) : Type 0 where
   pub words : ℕ

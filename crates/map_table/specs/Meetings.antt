@@ -1,4 +1,4 @@
--- Which extents have bytes of a piece of the space.
+-- Extents that contain bytes of a piece of the space.
 use Rattle.std.specs.Prelude.{◌≡◌, ℕ, ◌<◌, ◌≤◌, ◌&&◌, nat_lt, Bool, true, false, List, get_or}
 use Rattle.std.specs.Prelude.{length}
 use Rattle.pmp_encoding.specs.declared.extent.Extent.{Extent}
@@ -8,7 +8,7 @@ use Rattle.pmp_match.specs.Tor.{nowhere}
 abbrev pub meets : Extent → ℕ → ℕ → Bool
 meets x first end = nat_lt x.base end && nat_lt first x.end
 
--- no extent from number `from` to before number `to` meets the piece
+-- no extent from number `from` up to `to` meets the piece
 abbrev pub MissesAll : List Extent → ℕ → ℕ → ℕ → ℕ → Type 0
 MissesAll extents from to first end = (k : ℕ) → from ≤ k → k < to
     → meets (get_or extents k nowhere) first end ≡ false
@@ -20,8 +20,8 @@ pub record IsNextMeeting (extents : List Extent) (from first end number : ℕ) :
   pub met : meets (get_or extents number nowhere) first end ≡ true
   pub before : MissesAll extents from number first end
 
--- no extent before number `bound` meets the piece up to the cut; where the cut is before `end`, one
--- that meets the piece up to `end` begins there
+-- no extent before number `bound` meets the piece up to the cut; if the cut is before `end`, an
+-- extent that meets the piece up to `end` begins there
 pub record IsCut (extents : List Extent) (bound first end cut : ℕ) : Type 0 where
   pub most : cut ≤ end
   pub missed : MissesAll extents 0 bound first cut

@@ -4,16 +4,16 @@ use Rattle.std.specs.Prelude.{length, IfSome}
 use Rattle.pmp_encoding.specs.declared.extent.Extent.{Extent}
 use Rattle.map_table.specs.declared.stretch.Stretch.{Stretch}
 
--- a stretch with a byte, and with the number of an extent of the list or of none
+-- a stretch with at least one byte, and with the number of an extent of the list or none
 pub record IsRow (extents : List Extent) (s : Stretch) : Type 0 where
   pub some : s.first < s.end
   pub number : IfSome s.entry (λ i. i < length extents)
 
--- whether the extent has some byte of the stretch
+-- the extent contains some byte of the stretch
 abbrev pub meets : Extent → Stretch → Bool
 meets x s = nat_lt x.base s.end && nat_lt s.first x.end
 
--- the numbers of the extents that have some byte of the stretch, where the first of the list has
+-- the numbers of the extents that contain some byte of the stretch, if the first of the list has
 -- the number n
 abbrev pub overridden_from : ℕ → List Extent → Stretch → List ℕ
 overridden_from n [] s = []

@@ -6,7 +6,7 @@ use Rattle.pmp_encoding.specs.Views.{View}
 use Rattle.pmp_match.specs.RegisterBytes.{has_byte, perm_at}
 use Rattle.map_table.specs.declared.stretch.Stretch.{Stretch}
 
--- the number of the first extent that has the byte, where the first of the list has the number n
+-- the number of the first extent that contains the byte, if the first of the list has the number n
 abbrev pub decider_from : ℕ → List Extent → ℕ → Option ℕ
 decider_from n [] byte = None
 decider_from n (x ∷ extents) byte = if has_byte x byte then Some n
@@ -16,8 +16,8 @@ decider_from n (x ∷ extents) byte = if has_byte x byte then Some n
 abbrev pub decider : List Extent → ℕ → Option ℕ
 decider extents byte = decider_from 0 extents byte
 
--- the bytes of a stretch are all that lie together with one permission of the view and one deciding
--- extent, from its first byte on
+-- the stretch is maximal from its first byte on: all its bytes have one permission of the view and
+-- one deciding extent
 pub record IsStretch (view : View) (extents : List Extent) (s : Stretch) : Type 0 where
   pub some : s.first < s.end
   pub inside : s.end ≤ 2 ^ 56
@@ -27,7 +27,7 @@ pub record IsStretch (view : View) (extents : List Extent) (s : Stretch) : Type 
   pub maximal : s.end < 2 ^ 56 → (view (s.end / 4096) ≢ s.wanted)
       ⊎ (decider extents s.end ≢ s.entry)
 
--- stretches one after another, from one byte to before another
+-- consecutive stretches, from one byte up to another
 abbrev pub AreStretches : View → List Extent → ℕ → List Stretch → ℕ → Type 0
 AreStretches view extents from [] to = from ≡ to
 AreStretches view extents from (s ∷ stretches) to =

@@ -10,7 +10,7 @@ use map_text::{push_register, word_from};
 use pmp_encoding::{Limit, PackedEntry, Xlen};
 use text_lines::{Line, push_decimal, push_text};
 
-/// The last instruction, and after it the end of a routine, where it has a name.
+/// Returns the last instruction, and the end of the routine if it has a name.
 pub(crate) fn end(name: Option<&str>) -> &'static [u8]
     ensures { result.now ≡ asm_end (option_map (λ s. s.now) name.entry) }
 {
@@ -20,7 +20,7 @@ pub(crate) fn end(name: Option<&str>) -> &'static [u8]
     }
 }
 
-/// The label of a routine, where it has a name.
+/// Returns the name of a routine, if it has one.
 pub(crate) fn label_of<'a>(name: Option<&'a str>) -> &'a [u8]
     ensures { result.now ≡ label_of (option_map (λ s. s.now) name.entry) }
 {
@@ -30,7 +30,7 @@ pub(crate) fn label_of<'a>(name: Option<&'a str>) -> &'a [u8]
     }
 }
 
-/// What comes after it.
+/// Returns the rest of the routine's label.
 pub(crate) fn label_end<'a>(name: Option<&str>) -> &'a [u8]
     ensures { result.now ≡ label_end (option_map (λ s. s.now) name.entry) }
 {
@@ -40,7 +40,7 @@ pub(crate) fn label_end<'a>(name: Option<&str>) -> &'a [u8]
     }
 }
 
-/// Which registers are changed.
+/// Returns the note on the registers that the code changes.
 fn registers_note<'a>(xlen: Xlen, limit: Limit, first: u8) -> &'a [u8]
     ensures text { result.now ≡ asm_registers_note xlen limit first }
     ensures most { length result.now ≤ 34 }
@@ -51,7 +51,7 @@ fn registers_note<'a>(xlen: Xlen, limit: Limit, first: u8) -> &'a [u8]
     b"/* Only t0 and t1 are changed. */\n"
 }
 
-/// An instruction that the other width lacks.
+/// Returns an instruction that the other width lacks.
 fn guard<'a>(xlen: Xlen) -> &'a [u8]
     ensures text { result.now ≡ asm_guard xlen }
     ensures most { length result.now ≤ 90 }
@@ -64,7 +64,7 @@ fn guard<'a>(xlen: Xlen) -> &'a [u8]
     }
 }
 
-/// Both.
+/// Returns the note and the guard instruction.
 pub(crate) fn begin(xlen: Xlen, limit: Limit, first: u8) -> Line
     ensures { result ≡ asm_begin xlen limit first }
 {
@@ -107,7 +107,7 @@ impl Rows for Addresses<'_> {
     }
 }
 
-/// The instructions that read a shared word, and keep the bits of the entries below the first.
+/// Returns the instructions that read a shared word, and keep the bits of the entries below the first.
 fn shared_read(xlen: Xlen, first: u8) -> Line
     ensures { result ≡ asm_shared_read xlen first }
 {
@@ -120,7 +120,7 @@ fn shared_read(xlen: Xlen, first: u8) -> Line
     line
 }
 
-/// Those that write them with the bytes of the list.
+/// Returns the instructions that write these bits together with the bytes of the list.
 fn shared_write(xlen: Xlen, entries: &[PackedEntry], first: u8) -> Line
     ensures { result ≡ asm_shared_write xlen first entries.now }
 {
@@ -134,7 +134,7 @@ fn shared_write(xlen: Xlen, entries: &[PackedEntry], first: u8) -> Line
     line
 }
 
-/// The instructions for a word that is shared.
+/// The instructions for a shared word.
 #[derive(Drop)]
 pub(crate) struct SharedWords<'a> {
     pub(crate) xlen: Xlen,
@@ -157,7 +157,7 @@ impl Rows for SharedWords<'_> {
     }
 }
 
-/// Two instructions for each word that has no entry below the first.
+/// Two instructions for each word without an entry below the first.
 #[derive(Drop)]
 pub(crate) struct Words<'a> {
     pub(crate) xlen: Xlen,

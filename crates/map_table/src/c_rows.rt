@@ -9,7 +9,7 @@ use map_text::{entry_from, push_register, word_from};
 use pmp_encoding::{Limit, PackedEntry, Xlen};
 use text_lines::{Line, push_decimal, push_text};
 
-/// What comes before the arrays, with a guard that a compiler for the other width refuses.
+/// Returns the text before the arrays, with a guard that makes a compiler for the other width fail.
 pub(crate) fn begin<'a>(xlen: Xlen) -> &'a [u8]
     ensures { result.now ≡ c_begin xlen }
 {
@@ -31,7 +31,7 @@ static const uint64_t ",
     }
 }
 
-/// The rest of the name of the array of address registers, and its size.
+/// Returns the rest of the name of the array of address registers, and its size.
 pub(crate) fn addresses_size<'a>(limit: Limit) -> &'a [u8]
     ensures { result.now ≡ c_addresses_size limit }
 {
@@ -41,7 +41,7 @@ pub(crate) fn addresses_size<'a>(limit: Limit) -> &'a [u8]
     }
 }
 
-/// The end of that array, and the beginning of the array of configuration words.
+/// Returns the end of that array, and the beginning of the array of configuration words.
 pub(crate) fn between<'a>(xlen: Xlen) -> &'a [u8]
     ensures { result.now ≡ c_between xlen }
 {
@@ -51,7 +51,7 @@ pub(crate) fn between<'a>(xlen: Xlen) -> &'a [u8]
     }
 }
 
-/// The rest of its name, and its size.
+/// Returns the rest of its name, and its size.
 pub(crate) fn words_size<'a>(xlen: Xlen, limit: Limit) -> &'a [u8]
     ensures { result.now ≡ c_words_size xlen limit }
 {
@@ -63,7 +63,7 @@ pub(crate) fn words_size<'a>(xlen: Xlen, limit: Limit) -> &'a [u8]
     }
 }
 
-/// The end of the arrays, and what comes before the number of entries.
+/// Returns the end of the arrays, and the text before the number of entries.
 pub(crate) fn count_begin<'a>() -> &'a [u8]
     ensures { result.now ≡ c_count_begin }
 {
@@ -73,14 +73,14 @@ pub(crate) fn count_begin<'a>() -> &'a [u8]
 enum { "
 }
 
-/// What comes between the name of the number of entries and that number.
+/// Returns the text between the name of the number of entries and the number.
 pub(crate) fn count_is<'a>() -> &'a [u8]
     ensures { result.now ≡ c_count_is }
 {
     b"_count = "
 }
 
-/// A number in decimal.
+/// Returns a number in decimal.
 pub(crate) fn number_text(number: usize) -> Line
     ensures { result ≡ decimal number }
 {
@@ -89,7 +89,7 @@ pub(crate) fn number_text(number: usize) -> Line
     line
 }
 
-/// What is said of the function that writes the registers.
+/// Returns the beginning of the comment on the function that writes the registers.
 pub(crate) fn loader_note<'a>() -> &'a [u8]
     ensures { result.now ≡ c_loader_note }
 {
@@ -100,7 +100,7 @@ pub(crate) fn loader_note<'a>() -> &'a [u8]
 "
 }
 
-/// Which of them it writes.
+/// Returns the comment on the registers that it writes.
 pub(crate) fn loader_writes<'a>(first: u8) -> &'a [u8]
     ensures { result.now ≡ c_loader_writes first }
 {
@@ -113,7 +113,7 @@ pub(crate) fn loader_writes<'a>(first: u8) -> &'a [u8]
 "
 }
 
-/// In which order, and why.
+/// Returns the comment on the order of the writes.
 pub(crate) fn loader_reason<'a>() -> &'a [u8]
     ensures { result.now ≡ c_loader_reason }
 {
@@ -126,7 +126,7 @@ pub(crate) fn loader_reason<'a>() -> &'a [u8]
 static inline void "
 }
 
-/// The rest of that function's name, and what comes before the array of address registers.
+/// Returns the rest of that function's name, and the text before the array of address registers.
 pub(crate) fn load_addresses<'a>(xlen: Xlen) -> &'a [u8]
     ensures { result.now ≡ c_load_addresses xlen }
 {
@@ -136,7 +136,7 @@ pub(crate) fn load_addresses<'a>(xlen: Xlen) -> &'a [u8]
     }
 }
 
-/// What comes before the array of configuration words.
+/// Returns the text before the array of configuration words.
 pub(crate) fn load_words<'a>(xlen: Xlen) -> &'a [u8]
     ensures { result.now ≡ c_load_words xlen }
 {
@@ -146,7 +146,7 @@ pub(crate) fn load_words<'a>(xlen: Xlen) -> &'a [u8]
     }
 }
 
-/// What comes before the instructions.
+/// Returns the text before the instructions.
 pub(crate) fn load_begin<'a>() -> &'a [u8]
     ensures { result.now ≡ c_load_begin }
 {

@@ -1,4 +1,4 @@
-//! The rows of the function of C that writes the registers.
+//! The rows of the C function that writes the registers.
 
 ghost use Rattle.std.specs.Prelude.{◌≡◌, ◌≤◌, length};
 ghost use Rattle.map_table.specs.CTexts.{c_shared_write, c_shared_read, c_shared_read_begin};
@@ -38,7 +38,7 @@ impl Rows for AddressWrites {
     }
 }
 
-/// What comes before the number of a shared word.
+/// Returns the text before the number of a shared word.
 fn shared_read_begin<'a>(xlen: Xlen) -> &'a [u8]
     ensures text { result.now ≡ c_shared_read_begin xlen }
     ensures most { length result.now ≤ 58 }
@@ -49,7 +49,7 @@ fn shared_read_begin<'a>(xlen: Xlen) -> &'a [u8]
     }
 }
 
-/// The instructions that read a shared word, and keep the bits of the entries below the first.
+/// Returns the instructions that read a shared word, and keep the bits of the entries below the first.
 fn shared_read(xlen: Xlen, first: u8) -> Line
     ensures { result ≡ c_shared_read xlen first }
 {
@@ -62,7 +62,7 @@ fn shared_read(xlen: Xlen, first: u8) -> Line
     line
 }
 
-/// The one that writes them with the bytes of the list.
+/// Returns the instruction that writes these bits together with the bytes of the list.
 fn shared_write(xlen: Xlen, first: u8) -> Line
     ensures { result ≡ c_shared_write xlen first }
 {
@@ -76,7 +76,7 @@ fn shared_write(xlen: Xlen, first: u8) -> Line
     line
 }
 
-/// The instructions for a word that is shared.
+/// The instructions for a shared word.
 #[derive(Drop)]
 pub(crate) struct SharedWrites {
     pub(crate) xlen: Xlen,
@@ -98,7 +98,7 @@ impl Rows for SharedWrites {
     }
 }
 
-/// An instruction for each configuration word that has no entry below the first.
+/// An instruction for each configuration word without an entry below the first.
 #[derive(Drop)]
 pub(crate) struct WordWrites {
     pub(crate) xlen: Xlen,

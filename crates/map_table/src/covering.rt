@@ -1,4 +1,4 @@
-//! What a list of extents says of the bytes from one on.
+//! The extent of a list that covers a byte.
 
 ghost use Rattle.std.specs.Prelude.{◌≡◌, ◌≢◌, ℕ, ◌^◌, ◌<◌, ◌≤◌, All};
 ghost use Rattle.pmp_match.specs.RegisterBytes.{perm_at};
@@ -8,7 +8,7 @@ ghost use Rattle.map_table.specs.Stretches.{decider};
 use crate::extent_tree::ExtentTree;
 use pmp_encoding::{Perm, SPACE_SIZE};
 
-/// The first extent that has each byte from some byte to before `end`, and its permission.
+/// The first extent that contains each byte from some byte up to `end`, and its permission.
 #[derive(Clone, Copy)]
 pub(crate) struct Covering {
     pub(crate) end: u64,
@@ -16,8 +16,8 @@ pub(crate) struct Covering {
     pub(crate) given: Perm,
 }
 
-/// What the extents say from the byte on, as far as it stays the same: to the end of the first extent that has the byte,
-/// or to where one before it begins.
+/// Returns the extent that covers the bytes from a byte on, and how far it does: to the end of the first extent that
+/// contains the byte, or to the start of an extent before it.
 pub(crate) fn covering_from(extents: &ExtentTree, at: u64) -> Covering
     requires at { at < 2 ^ 56 }
     requires words { All IsWords extents.now }

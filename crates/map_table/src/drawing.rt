@@ -1,4 +1,4 @@
-//! The table as a picture, for people: an SVG whose well-formedness and colours are tested.
+//! The table as an SVG picture, whose well-formedness and colours are tested.
 
 ghost use Rattle.std.specs.Prelude.{◌<◌, All, length};
 ghost use Rattle.map_table.specs.Rows.{IsRow};
@@ -10,10 +10,10 @@ use permission_map::Memory;
 use std::alloc::{AllocError, Global};
 use text_lines::Line;
 
-/// The most stretches that are drawn.
+/// Maximum number of stretches to draw.
 pub(crate) const MOST: usize = 1024;
 
-/// The beginning, up to the size of the picture.
+/// The first part, up to the size of the picture.
 const OPEN: &[u8] = b"<svg xmlns=\"http://www.w3.org/2000/svg\" width=\"680";
 
 /// The title, the colours, the shape of a gap and the background, up to the number of entries.
@@ -39,7 +39,7 @@ rect { stroke: #000 }
 <rect class=\"ground\" width=\"100%\" height=\"100%\"/>
 <text x=\"20\" y=\"24\">";
 
-/// The key to the colours, and the end.
+/// The legend and the end.
 const KEY: &[u8] =
     b"<rect class=\"none\" width=\"14\" height=\"14\"/><text x=\"20\" y=\"12\">---</text>
 <rect class=\"r\" x=\"70\" width=\"14\" height=\"14\"/><text x=\"90\" y=\"12\">r--</text>
@@ -57,7 +57,7 @@ fn push(text: &mut Vec<u8>, words: Result<String, AllocError>) -> Result<(), Mem
     Ok(())
 }
 
-/// The height of the band of that many bytes.
+/// Returns the height of the band of a size.
 fn band_height(size: u64) -> u64 {
     if size < 1 << 16 {
         40
@@ -70,7 +70,7 @@ fn band_height(size: u64) -> u64 {
     }
 }
 
-/// The number of bytes of a stretch.
+/// Returns the number of bytes of a stretch.
 fn size_of(stretch: &Stretch) -> u64 {
     stretch.end.saturating_sub(stretch.first)
 }
@@ -155,7 +155,7 @@ fn push_row(
     }
 }
 
-/// Appends the stretches one below the other. Returns where the last one ends.
+/// Appends the stretches one below another. Returns the end of the last one.
 fn push_rows(
     alloc: Global,
     text: &mut Vec<u8>,
@@ -172,7 +172,7 @@ fn push_rows(
     Ok(y)
 }
 
-/// Appends the number of stretches that are left out, if there are any.
+/// Appends the number of omitted stretches, if there are any.
 fn push_left_out(alloc: Global, text: &mut Vec<u8>, count: usize, y: u64) -> Result<(), Memory> {
     if count <= MOST {
         return Ok(());
@@ -185,7 +185,7 @@ fn push_left_out(alloc: Global, text: &mut Vec<u8>, count: usize, y: u64) -> Res
     )
 }
 
-/// Draws the first stretches, with the line of the number of entries above them. The only error is out of memory.
+/// Draws the first stretches, below the line of the number of entries. The only error is a failed allocation.
 pub(crate) fn picture_of(
     alloc: Global,
     extents: &ExtentTree,

@@ -1,4 +1,4 @@
-//! Extents by their numbers, among which the next one that meets some bytes is found.
+//! Numbered extents, and a search for the next one that meets some bytes.
 
 ghost use Rattle.std.specs.Prelude.{◌≡◌, IfOk, MatchOption, length};
 ghost use Rattle.std.specs.List.Sorted.{IsPermutation};
@@ -11,7 +11,7 @@ use pmp_match::Extent;
 use std::alloc::Global;
 use std::marker::Model;
 
-/// What an extent of that number has.
+/// Returns the bytes and the number of an extent as a hull.
 fn hull_of(number: usize, extent: &Extent) -> Hull
     ensures { result ≡ hull_of number extent.now }
 {
@@ -22,7 +22,7 @@ fn hull_of(number: usize, extent: &Extent) -> Hull
     }
 }
 
-/// What each extent has. The only error is out of memory.
+/// Returns the hull of each extent. The only error is a failed allocation.
 fn number_extents(alloc: Global, extents: &[Extent]) -> Result<Vec<Hull>, Memory>
     ensures { IfOk result (λ all. all.items ≡ numbered 0 extents.now) }
 {
@@ -33,7 +33,7 @@ fn number_extents(alloc: Global, extents: &[Extent]) -> Result<Vec<Hull>, Memory
     Ok(all)
 }
 
-/// The same by rising base. The only error is out of memory.
+/// Returns the hulls by ascending base. The only error is a failed allocation.
 fn leaves_of(alloc: Global, extents: &[Extent]) -> Result<Vec<Hull>, Memory>
     ensures { IfOk result (λ leaves. IsPermutation (numbered 0 extents.now) leaves.items) }
 {
@@ -42,8 +42,8 @@ fn leaves_of(alloc: Global, extents: &[Extent]) -> Result<Vec<Hull>, Memory>
     Ok(leaves)
 }
 
-/// Extents by their numbers. Beside them a tree has, by rising base, the bytes and the number of each. It holds 72 bytes
-/// for each extent.
+/// Numbered extents. The tree also stores the bytes and the number of each by ascending base. It takes 72 bytes for
+/// each extent.
 #[derive(Drop)]
 pub struct ExtentTree {
     extents: Vec<Extent>,
@@ -64,7 +64,7 @@ impl Model for ExtentTree {
 }
 
 impl ExtentTree {
-    /// The tree of a list of extents. The only error is out of memory.
+    /// Builds the tree of a list of extents. The only error is a failed allocation.
     pub fn new(alloc: Global, extents: &[Extent]) -> Result<ExtentTree, Memory>
         ensures { IfOk result (λ tree. tree ≡ extents.now) }
     {
@@ -75,15 +75,15 @@ impl ExtentTree {
         Ok(ExtentTree { extents: all, tree })
     }
 
-    /// The extents, by their numbers.
+    /// Returns the extents, by their numbers.
     pub fn extents(&self) -> &[Extent]
         ensures { result.now ≡ self.now }
     {
         self.extents.as_slice()
     }
 
-    /// The number of the first extent, from number `from` on, that begins before byte `end` and ends after byte `first`;
-    /// nothing where there is none. Each leaf that is found lowers the bound of those that are sought after it.
+    /// Returns the number of the first extent, from number `from` on, that begins before byte `end` and ends after byte
+    /// `first`, or `None`. Each leaf that is found lowers the bound for the rest of the search.
     pub fn next_meeting(&self, from: usize, first: u64, end: u64) -> Option<usize>
         ensures { MatchOption result (MissesAll self.now from (length self.now) first end)
             (λ number. IsNextMeeting self.now from first end number) }
@@ -104,8 +104,8 @@ impl ExtentTree {
         None
     }
 
-    /// The least byte at which an extent with a number below `bound` begins that begins before byte `end` and ends after
-    /// byte `first`; `end` where there is none.
+    /// Returns the lowest start of an extent with a number below `bound` that begins before byte `end` and ends after
+    /// byte `first`, or `end` if there are no such extents.
     pub(crate) fn next_cut(&self, bound: usize, first: u64, end: u64) -> u64
         ensures { IsCut self.now bound first end result }
     {

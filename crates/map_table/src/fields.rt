@@ -1,4 +1,4 @@
-//! Sizes as people write them.
+//! Human-readable sizes.
 
 use arrayvec::ArrayString;
 use std::fmt;
@@ -14,13 +14,13 @@ const UNITS: [(u64, &str); 6] = [
     (1, "B"),
 ];
 
-/// The most bytes of an exact size.
+/// Maximum length of an exact size.
 const MOST: usize = 8;
 
-/// A size in words.
+/// A size as text.
 pub(crate) type Size = ArrayString<32>;
 
-/// Writes a size exactly, in the largest unit that counts it whole.
+/// Writes a size exactly, in the largest unit that divides it.
 fn exact(size: u64) -> Size {
     let mut words = Size::new();
     for (unit, name) in UNITS {
@@ -33,7 +33,7 @@ fn exact(size: u64) -> Size {
     words
 }
 
-/// Writes a size rounded down after a `>`, with tenths below ten, in a unit of which it has fewer than a thousand.
+/// Writes a size rounded down after a `>`, with tenths below ten, in a unit of which it contains fewer than a thousand.
 fn rounded(size: u64) -> Size {
     let (unit, name) = if size < 1000 << 20 {
         (1u64 << 20, "MiB")
@@ -64,7 +64,7 @@ pub(crate) fn short_size(size: u64) -> Size {
     words
 }
 
-/// Writes a size as a column of a table has it, right-aligned in seven characters.
+/// Writes a size as a column of a table, right-aligned in seven characters.
 pub(crate) fn push_column(words: &mut ArrayString<128>, size: u64) -> fmt::Result {
     let short = short_size(size);
     write!(words, "{short:>7}")

@@ -1,4 +1,4 @@
-//! The registers of a list, written to a sink.
+//! Writes the registers of a list to a sink.
 
 ghost use Rattle.std.specs.Prelude.{◌≡◌, ◌+◌, ◌-◌, ◌^◌, ◌/◌, ◌<◌, ◌≤◌, Some, length, option_map};
 ghost use Rattle.text_lines.specs.Writings.{writing, Prints, PrintsOne};
@@ -89,7 +89,7 @@ fn print_word_writes<W: Sink>(
     print_both(&shared, shared_count, &words, count, out)
 }
 
-/// Writes how many entries there are, and the function that writes the registers.
+/// Writes the number of entries, and the function that writes the registers.
 fn print_loader<W: Sink>(
     prefix: &[u8],
     link: &[u8],
@@ -133,14 +133,13 @@ fn print_loader<W: Sink>(
     Ok(())
 }
 
-/// Writes the registers of a list as C: two arrays of all address registers and configuration words, each entry's region,
-/// size and permission beside it, below a comment that says what must hold where they are written; then how many entries
-/// there are, and a function that writes those from the first entry on. With a
-/// name they are called by it: `uart_pmpaddr`, `uart_pmpcfg`, `uart_count`, `uart_load`; otherwise `pmpaddr`, `pmpcfg`,
-/// `pmp_count`, `pmp_load`. The entries below the first, and their bytes of a word that they share with it, stay as they are.
+/// Writes the registers of a list as C: two arrays of all address registers and configuration words, with each entry's
+/// region, size and permission in a comment, below a comment on the conditions for writing them; then the number of
+/// entries, and a function that writes the registers from the first entry on. With a name, such as `uart`, they are
+/// called `uart_pmpaddr`, `uart_pmpcfg`, `uart_count` and `uart_load`; otherwise `pmpaddr`, `pmpcfg`, `pmp_count` and
+/// `pmp_load`. The entries below the first, and their bytes of a word that they share with it, are unchanged.
 ///
-/// On an `Err` a beginning of this text was written, not all of it, and the device failed, or took none of some bytes, in
-/// this call.
+/// On an `Err` only a beginning of this text was written, and the device failed, or accepted no bytes, in this call.
 pub fn print_c<W: Sink>(
     name: Option<&str>,
     xlen: Xlen,
@@ -213,13 +212,12 @@ fn print_asm_words<W: Sink>(
     print_both(&shared, shared_count, &words, count, out)
 }
 
-/// Writes the registers of a list as assembly: the instructions that write the address registers of its entries, then those
-/// that write the configuration words, in which the entries after it are off, then `sfence.vma`, below the same comment.
-/// With a name they are a routine that is called so, with `_load` after it. The entries below the first, and their bytes of a
-/// word that they share with it, stay as they are.
+/// Writes the registers of a list as assembly, below the same comment: the instructions that write the address
+/// registers of its entries, then those that write the configuration words, in which the entries after the list are
+/// off, then `sfence.vma`. With a name they form a routine called by that name with `_load` after it. The entries below
+/// the first, and their bytes of a word that they share with it, are unchanged.
 ///
-/// On an `Err` a beginning of this text was written, not all of it, and the device failed, or took none of some bytes, in
-/// this call.
+/// On an `Err` only a beginning of this text was written, and the device failed, or accepted no bytes, in this call.
 pub fn print_asm<W: Sink>(
     name: Option<&str>,
     xlen: Xlen,
@@ -276,14 +274,14 @@ fn print_object<W: Sink>(
         first,
     };
     print_section(b"{\n  \"map\": \"", &letters, name.len(), out)?;
-    let begin = json_registers::entries_begin(xlen, limit, first);
+    let begin = json_registers::entries_begin(xlen, limit, first, entries.len());
     print_section(begin.as_slice(), &listed, entries.len(), out)?;
     print_section(b"\n  ],\n  \"pmpcfg\": [", &words, count, out)?;
     write_whole(out, b"\n  ]\n}\n")?;
     Ok(())
 }
 
-/// How many words are printed: none where the hart has no room for that many entries.
+/// Returns the number of words to print, which is zero if the hart has no room for the entries.
 fn printed_word_count(xlen: Xlen, entries: usize, first: u8, limit: Limit) -> usize
     ensures fits { entries ≤ limit_number limit - first → result ≡ word_count xlen limit }
     ensures too_many { limit_number limit - first < entries → result ≡ 0 }
@@ -295,12 +293,11 @@ fn printed_word_count(xlen: Xlen, entries: usize, first: u8, limit: Limit) -> us
     xlen.words(limit)
 }
 
-/// Writes a list as one JSON object: the map's name, the limit, the first entry where it is not 0, each entry with its pair, its
-/// region and its permission, and the configuration words, none where the hart has no room for the list. The bytes of entries
-/// below the first are zero there.
+/// Writes a list as one JSON object: the map's name, the limit, the first entry if it is not 0, whether the hart has room
+/// for the list, each entry with its pair, its region and its permission, and the configuration words, if there is room.
+/// The bytes of entries below the first are zero there.
 ///
-/// On an `Err` a beginning of this text was written, not all of it, and the device failed, or took none of some bytes, in
-/// this call.
+/// On an `Err` only a beginning of this text was written, and the device failed, or accepted no bytes, in this call.
 pub fn print_json<W: Sink>(
     map: &str,
     xlen: Xlen,

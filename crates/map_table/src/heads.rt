@@ -1,11 +1,11 @@
-//! What must hold where the registers are written.
+//! The comment on the conditions for writing the registers.
 
 ghost use Rattle.std.specs.Prelude.{◌≡◌};
 ghost use Rattle.map_table.specs.Heads.{head_begin, head_below, head_end, head_rules, head_width};
 
 use pmp_encoding::Xlen;
 
-/// What must hold where the registers are written.
+/// Returns the first lines of the comment.
 pub(crate) fn head_begin<'a>() -> &'a [u8]
     ensures { result.now ≡ head_begin }
 {
@@ -15,7 +15,7 @@ pub(crate) fn head_begin<'a>() -> &'a [u8]
 "
 }
 
-/// How wide the hart's registers are.
+/// Returns the condition on the width of the hart's registers.
 pub(crate) fn head_width<'a>(xlen: Xlen) -> &'a [u8]
     ensures { result.now ≡ head_width xlen }
 {
@@ -25,7 +25,7 @@ pub(crate) fn head_width<'a>(xlen: Xlen) -> &'a [u8]
     }
 }
 
-/// What must hold of each list.
+/// Returns the conditions for every list.
 pub(crate) fn head_rules<'a>() -> &'a [u8]
     ensures { result.now ≡ head_rules }
 {
@@ -35,7 +35,7 @@ pub(crate) fn head_rules<'a>() -> &'a [u8]
 "
 }
 
-/// What must hold too where the list does not begin at entry 0.
+/// Returns the condition for a list that does not begin at entry 0.
 pub(crate) fn head_below<'a>(first: u8) -> &'a [u8]
     ensures { result.now ≡ head_below first }
 {
@@ -47,7 +47,7 @@ pub(crate) fn head_below<'a>(first: u8) -> &'a [u8]
 "
 }
 
-/// The rest of it.
+/// Returns the rest of the comment.
 pub(crate) fn head_end<'a>() -> &'a [u8]
     ensures { result.now ≡ head_end }
 {

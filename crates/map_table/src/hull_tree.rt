@@ -1,4 +1,4 @@
-//! A tree of hulls over leaves, by which the next leaf that meets some bytes is found.
+//! A tree of hulls over leaves, and a search for the next leaf that meets some bytes.
 
 ghost use Rattle.std.specs.Prelude.{◌≡◌, ◌<◌, ◌*◌, IfOk, MatchOption, length};
 ghost use Rattle.map_table.specs.Hulls.{AllPast, AreHulls, Encloses, IsNextLeaf, is_past, node_at};
@@ -7,8 +7,8 @@ use permission_map::Memory;
 use std::alloc::Global;
 use std::marker::Model;
 
-/// The bytes from `base` to before `end`, and the number of an extent: of a leaf its own, otherwise the least of those
-/// that lie there.
+/// The bytes from `base` up to `end`, and a number: that of the extent for a leaf, otherwise the lowest of the extents
+/// inside the hull.
 #[derive(Clone, Copy)]
 pub(crate) struct Hull {
     pub(crate) base: u64,
@@ -22,7 +22,7 @@ const EMPTY: Hull = Hull {
     number: 0,
 };
 
-/// What has all bytes of both, and the lower number.
+/// Returns the smallest hull of both, with the lower number.
 fn join(a: Hull, b: Hull) -> Hull
     ensures first { Encloses result a }
     ensures second { Encloses result b }
@@ -34,14 +34,14 @@ fn join(a: Hull, b: Hull) -> Hull
     }
 }
 
-/// Whether the hull has no number below `bound`, or lies before `first` or from `end` on.
+/// Returns whether the hull has no number below `bound`, or ends before `first` or begins at `end` or later.
 fn is_past(hull: Hull, bound: usize, first: u64, end: u64) -> bool
     ensures { result ≡ is_past hull bound first end }
 {
     bound <= hull.number || end <= hull.base || hull.end <= first
 }
 
-/// The node of that index: a leaf, or what has all bytes of its two children.
+/// Returns the node with an index: a leaf, or the hull of its two children.
 fn node(hulls: &[Hull], leaves: &[Hull], index: usize) -> Hull
     requires hulls { length hulls.now ≡ length leaves.now }
     requires inside { index < 2 * length leaves.now }
@@ -54,7 +54,7 @@ fn node(hulls: &[Hull], leaves: &[Hull], index: usize) -> Hull
     }
 }
 
-/// The hulls of leaves. The only error is out of memory.
+/// Returns the hulls of leaves. The only error is a failed allocation.
 fn hulls_of(alloc: Global, leaves: &[Hull]) -> Result<Vec<Hull>, Memory>
     ensures { IfOk result (λ hulls. AreHulls hulls.items leaves.now) }
 {
@@ -69,8 +69,8 @@ fn hulls_of(alloc: Global, leaves: &[Hull]) -> Result<Vec<Hull>, Memory>
     Ok(hulls)
 }
 
-/// Leaves by their places, under a binary tree of hulls: of n leaves, node n + k is the leaf at place k, and node m, from
-/// 1 to n - 1, has all bytes of the nodes 2m and 2m + 1, and the lower of their numbers.
+/// Leaves by their indices, under a binary tree of hulls: with n leaves, node n + k is leaf k, and node m, from 1 to n
+/// - 1, is the hull of the nodes 2m and 2m + 1, with the lower of their numbers.
 #[derive(Drop)]
 pub(crate) struct HullTree {
     leaves: Vec<Hull>,
@@ -90,7 +90,7 @@ impl Model for HullTree {
 }
 
 impl HullTree {
-    /// The tree of leaves. The only error is out of memory.
+    /// Builds the tree of leaves. The only error is a failed allocation.
     pub(crate) fn new(alloc: Global, leaves: Vec<Hull>) -> Result<HullTree, Memory>
         ensures { IfOk result (λ tree. tree ≡ leaves.items) }
     {
@@ -98,15 +98,15 @@ impl HullTree {
         Ok(HullTree { leaves, hulls })
     }
 
-    /// The leaves, by their places.
+    /// Returns the leaves, by their indices.
     pub(crate) fn leaves(&self) -> &[Hull]
         ensures { result.now ≡ self.now }
     {
         self.leaves.as_slice()
     }
 
-    /// The place of the first leaf, from place `from` on, with a number below `bound`, that begins before byte `end` and
-    /// ends after byte `first`; nothing where there is none. A node that is past these is passed with all leaves below it.
+    /// Returns the index of the first leaf, from `from` on, with a number below `bound`, that begins before byte `end`
+    /// and ends after byte `first`, or `None`. If a node does not qualify, all leaves below it are skipped.
     pub(crate) fn next_leaf(&self, from: usize, bound: usize, first: u64, end: u64) -> Option<usize>
         ensures { MatchOption result (AllPast self.now from (length self.now) bound first end)
             (λ place. IsNextLeaf self.now from bound first end place) }

@@ -11,10 +11,10 @@ use pmp_encoding::Limit;
 use std::alloc::Global;
 use text_lines::{Line, push_decimal, push_hex, push_text};
 
-/// What follows the last row.
+/// The text after the last row.
 pub(crate) const END: &[u8] = b"\n  ]\n}\n";
 
-/// Whether a hart has as many entries.
+/// Returns the text on whether a hart has enough entries.
 fn fits<'a>(count: usize, limit: Limit) -> &'a [u8]
     ensures text { result.now ≡ json_fits count limit }
     ensures most { length result.now ≤ 40 }
@@ -26,7 +26,7 @@ fn fits<'a>(count: usize, limit: Limit) -> &'a [u8]
     }
 }
 
-/// What comes before the rows.
+/// Returns the text before the rows.
 pub(crate) fn head(count: usize, limit: Limit) -> Line
     ensures { result ≡ json_head count limit }
 {
@@ -39,7 +39,7 @@ pub(crate) fn head(count: usize, limit: Limit) -> Line
     line
 }
 
-/// The bytes of a stretch and its permission.
+/// Returns the bytes of a stretch and its permission.
 fn stretch_line(stretch: &Stretch) -> Line
     requires { stretch.now.first < stretch.now.end }
     ensures { result ≡ json_stretch stretch.now }
@@ -55,7 +55,7 @@ fn stretch_line(stretch: &Stretch) -> Line
     line
 }
 
-/// A number.
+/// Returns a number in decimal.
 fn number_line(number: usize) -> Line
     ensures { result ≡ decimal number }
 {
@@ -75,7 +75,7 @@ fn push_numbers_more(text: &mut Vec<u8>, numbers: &[usize]) -> Result<(), Memory
     Ok(())
 }
 
-/// Appends numbers with a comma between them.
+/// Appends numbers separated by commas.
 fn push_numbers(text: &mut Vec<u8>, numbers: &[usize]) -> Result<(), Memory>
     ensures { OnOk result (text.new.items ≡ text.old.items ++ numbers_text numbers.now) }
 {
@@ -87,7 +87,7 @@ fn push_numbers(text: &mut Vec<u8>, numbers: &[usize]) -> Result<(), Memory>
     Ok(())
 }
 
-/// Appends an entry that decides a stretch, and all that it overrides there.
+/// Appends the entry that decides a stretch, and all entries that it overrides there.
 fn push_decider(
     alloc: Global,
     text: &mut Vec<u8>,
@@ -107,7 +107,7 @@ fn push_decider(
     Ok(())
 }
 
-/// Appends the entry that decides a stretch, or that there is none.
+/// Appends the entry that decides a stretch, or `null`.
 fn push_entry(
     alloc: Global,
     text: &mut Vec<u8>,
@@ -126,7 +126,7 @@ fn push_entry(
     Ok(())
 }
 
-/// Appends what is said of a stretch.
+/// Appends the row of a stretch.
 fn push_row(
     alloc: Global,
     text: &mut Vec<u8>,
@@ -143,7 +143,7 @@ fn push_row(
     Ok(())
 }
 
-/// Appends a row for each stretch, after a comma.
+/// Appends a row for each stretch, each after a comma.
 fn push_more(
     alloc: Global,
     text: &mut Vec<u8>,
@@ -160,7 +160,7 @@ fn push_more(
     Ok(())
 }
 
-/// Appends a row for each stretch, with commas between them.
+/// Appends a row for each stretch, separated by commas.
 pub(crate) fn push_rows(
     alloc: Global,
     text: &mut Vec<u8>,

@@ -1,15 +1,15 @@
 //! The rows of JSON.
 
 ghost use Rattle.std.specs.Prelude.{◌≡◌, ◌+◌, ◌++◌, ◌≤◌, ◌<◌, ◌^◌, length};
-ghost use Rattle.map_table.specs.JsonTexts.{json_before, json_byte, json_entries_begin, json_first, json_limit, json_region, json_registers, json_width};
+ghost use Rattle.map_table.specs.JsonTexts.{json_before, json_byte, json_entries_begin, json_first, json_fits, json_limit, json_region, json_registers, json_width};
 
 use crate::names::{entry_at, power_of_two};
 use crate::register_rows::{Row, Rows};
-use map_text::{push_register, word_from};
+use map_text::{push_register, room_from, word_from};
 use pmp_encoding::{Entry, Limit, PackedEntry, Xlen};
 use text_lines::{Line, push_decimal, push_hex, push_text};
 
-/// The limit.
+/// Returns the limit.
 fn limit_text<'a>(limit: Limit) -> &'a [u8]
     ensures text { result.now ≡ json_limit limit }
     ensures most { length result.now ≤ 20 }
@@ -20,7 +20,7 @@ fn limit_text<'a>(limit: Limit) -> &'a [u8]
     }
 }
 
-/// Appends the entry of the hart at which the list begins, where that is not entry 0.
+/// Appends the number of the first entry, if it is not 0.
 fn push_first(line: &mut Line, first: u8)
     requires { length line.old + 33 ≤ 128 }
     ensures items { line.new ≡ line.old ++ json_first first }
@@ -33,7 +33,7 @@ fn push_first(line: &mut Line, first: u8)
     }
 }
 
-/// The width, where it is not that of RV64.
+/// Returns the width, unless it is that of RV64.
 fn width_text<'a>(xlen: Xlen) -> &'a [u8]
     ensures text { result.now ≡ json_width xlen }
     ensures most { length result.now ≤ 16 }
@@ -44,19 +44,32 @@ fn width_text<'a>(xlen: Xlen) -> &'a [u8]
     }
 }
 
-/// All three, and what comes before the entries.
-pub(crate) fn entries_begin(xlen: Xlen, limit: Limit, first: u8) -> Line
-    ensures { result ≡ json_entries_begin xlen limit first }
+/// Returns the line that says whether the hart has room for that many entries, beginning at the first.
+fn fits_text<'a>(count: usize, limit: Limit, first: u8) -> &'a [u8]
+    ensures text { result.now ≡ json_fits count limit first }
+    ensures most { length result.now ≤ 17 }
+{
+    if count <= room_from(first, limit) {
+        b"  \"fits\": true,\n"
+    } else {
+        b"  \"fits\": false,\n"
+    }
+}
+
+/// Returns the limit, the width, the first entry and whether the entries fit, and the text before the entries.
+pub(crate) fn entries_begin(xlen: Xlen, limit: Limit, first: u8, count: usize) -> Line
+    ensures { result ≡ json_entries_begin xlen limit first count }
 {
     let mut line = Line::new();
     push_text(&mut line, limit_text(limit));
     push_text(&mut line, width_text(xlen));
     push_first(&mut line, first);
+    push_text(&mut line, fits_text(count, limit, first));
     push_text(&mut line, b"  \"entries\": [");
     line
 }
 
-/// A byte of a name in a string.
+/// Returns a byte of a name, escaped if necessary.
 fn json_byte(byte: u8) -> Line
     ensures { result ≡ json_byte byte }
 {
@@ -78,7 +91,7 @@ fn json_byte(byte: u8) -> Line
     line
 }
 
-/// What comes before an item of a list.
+/// Returns the text before an item of a list.
 fn json_before(i: usize) -> &'static [u8]
     ensures text { result.now ≡ json_before i }
     ensures most { length result.now ≤ 2 }
@@ -116,7 +129,7 @@ pub(crate) struct Entries<'a> {
     pub(crate) first: u8,
 }
 
-/// What is said of the registers of the list's entry i.
+/// Returns the members with the registers of the list's entry i.
 fn registers_of(xlen: Xlen, first: u8, i: usize, entry: &Entry) -> Line
     requires { first + i < 2 ^ 64 }
     ensures { result ≡ json_registers xlen first i entry.now }
@@ -133,7 +146,7 @@ fn registers_of(xlen: Xlen, first: u8, i: usize, entry: &Entry) -> Line
     line
 }
 
-/// What is said of the region of an entry, and of its permission.
+/// Returns the members with the region and the permission of an entry.
 fn region_of(entry: &Entry) -> Line
     ensures { result ≡ json_region entry.now }
 {

@@ -1,11 +1,13 @@
-//! A map and its entries in other forms: a table as text, JSON or SVG, and registers as C, assembly or JSON.
+//! Prints a map as a table in text, JSON or SVG, and the registers of its entries as C, assembly or JSON.
 //!
-//! A [`Stretch`] is a maximal range of bytes on which the map has one permission and one entry, or none, is the first that matches.
-//! [`stretches`] returns all of them in order for any list of extents. [`table_of`] prints the table of a map and its fewest entries,
-//! [`extent_table`] that of given extents, [`json_table`] the same as a JSON object, and [`picture`] as an SVG.
+//! A [`Stretch`] is a maximal range of bytes on which the map has one permission and the same entry, or none, matches
+//! first. [`stretches`] returns all of them in order for any list of extents. [`table_of`] prints the table of a map
+//! and its minimal entries, [`extent_table`] that of given extents, [`json_table`] the same as a JSON object, and
+//! [`picture`] as an SVG.
 //!
-//! [`print_c`], [`print_asm`] and [`print_json`] write the registers of a list to a sink, each with its region and permission. A list
-//! may begin at a later entry than the first: C and assembly then leave the entries below it as they are.
+//! [`print_c`], [`print_asm`] and [`print_json`] write the registers of a list to a sink, each with its region and
+//! permission. A list may begin at a later entry than the first: C and assembly then leave the entries below it
+//! unchanged.
 //!
 //! ```text
 //! from               to                 size    perm by
@@ -13,7 +15,7 @@
 //! 0x0000000080000000 0x00000000801fffff   2 MiB  ---  1 (before 2)
 //! 0x0000000080200000 0x0000000087ffffff 126 MiB  rwx  2
 //! all else                                       ---  no entry
-//! 3 entries: fewest possible; fits 16
+//! fewest NA4/NAPOT entries: 3; fits 16
 //! ```
 #![tactic(auto)]
 

@@ -1,4 +1,4 @@
-//! Entries as people read them.
+//! Human-readable entries.
 
 ghost use Rattle.std.specs.Prelude.{◌≡◌, ◌≤◌, ◌<◌, ◌+◌, ◌^◌, ◌++◌, option_map, slice_get, length};
 ghost use Rattle.map_table.specs.Names.{address_or_zero, array_link, base_text, note_text, place_text, prefix_of, region_or_off, region_text, size_and_perm_text};
@@ -7,7 +7,7 @@ use map_text::push_size;
 use pmp_encoding::{Entry, PackedEntry};
 use text_lines::{Line, push_decimal, push_hex, push_text};
 
-/// A power of two.
+/// Returns a power of two.
 pub(crate) fn power_of_two(log2: u32) -> u64
     requires { log2 ≤ 56 }
     ensures { result ≡ 2 ^ log2 }
@@ -15,7 +15,7 @@ pub(crate) fn power_of_two(log2: u32) -> u64
     1 << log2
 }
 
-/// Appends where an entry begins.
+/// Appends the start of an entry's region.
 fn push_base(line: &mut Line, entry: &Entry)
     requires { length line.old + 18 ≤ 128 }
     ensures items { line.new ≡ line.old ++ base_text entry.now }
@@ -36,7 +36,7 @@ fn push_size_and_perm(line: &mut Line, entry: &Entry)
     push_text(line, entry.perm.word().as_bytes());
 }
 
-/// Appends where an entry begins, its size and its permission.
+/// Appends the start of an entry's region, its size and its permission.
 fn push_region(line: &mut Line, entry: &Entry)
     requires { length line.old + 50 ≤ 128 }
     ensures items { line.new ≡ line.old ++ region_text entry.now }
@@ -47,7 +47,7 @@ fn push_region(line: &mut Line, entry: &Entry)
     push_size_and_perm(line, entry);
 }
 
-/// The same, or that there is none.
+/// Appends the text of an entry's region, or `off` if the entry is missing.
 fn push_region_or_off(line: &mut Line, entry: Option<Entry>)
     requires { length line.old + 50 ≤ 128 }
     ensures items { line.new ≡ line.old ++ region_or_off entry }
@@ -70,7 +70,7 @@ pub(crate) fn push_note(line: &mut Line, i: u64, entry: Option<Entry>)
     push_region_or_off(line, entry);
 }
 
-/// Appends the same of entry i of a hart, where those below the first stay as they are.
+/// Appends the note for entry i of a hart, where those below the first are unchanged.
 pub(crate) fn push_place(line: &mut Line, first: u8, i: u64, entry: Option<Entry>)
     requires { length line.old + 72 ≤ 128 }
     ensures items { line.new ≡ line.old ++ place_text first i entry }
@@ -84,7 +84,7 @@ pub(crate) fn push_place(line: &mut Line, first: u8, i: u64, entry: Option<Entry
     }
 }
 
-/// The address register of an entry, and zero where there is none.
+/// Returns the address register of an entry, or zero if it is missing.
 pub(crate) fn address_or_zero(entry: Option<Entry>) -> u64
     ensures { result ≡ address_or_zero entry }
 {
@@ -94,7 +94,7 @@ pub(crate) fn address_or_zero(entry: Option<Entry>) -> u64
     }
 }
 
-/// The i-th entry, where there is one.
+/// Returns the i-th entry, if there is one.
 pub(crate) fn entry_at(entries: &[PackedEntry], i: usize) -> Option<Entry>
     ensures { result ≡ slice_get entries.now i }
 {
@@ -104,7 +104,7 @@ pub(crate) fn entry_at(entries: &[PackedEntry], i: usize) -> Option<Entry>
     }
 }
 
-/// What the names in C begin with: the name that is given, and otherwise `pmp`.
+/// Returns the prefix of the names in C: the given name, otherwise `pmp`.
 pub(crate) fn prefix_of<'a>(name: Option<&'a str>) -> &'a [u8]
     ensures { result.now ≡ prefix_of (option_map (λ s. s.now) name.entry) }
 {
@@ -114,7 +114,7 @@ pub(crate) fn prefix_of<'a>(name: Option<&'a str>) -> &'a [u8]
     }
 }
 
-/// What comes after it in the names of the arrays.
+/// Returns the middle part of the names of the arrays.
 pub(crate) fn array_link<'a>(name: Option<&str>) -> &'a [u8]
     ensures { result.now ≡ array_link (option_map (λ s. s.now) name.entry) }
 {

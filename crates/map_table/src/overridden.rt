@@ -1,4 +1,4 @@
-//! The entries that a deciding entry overrides, by what they match.
+//! The entries that a deciding entry overrides, by the addresses that they match.
 
 ghost use Rattle.std.specs.Prelude.{◌≡◌, ◌+◌, ◌<◌, drop, length, take};
 ghost use Rattle.map_table.specs.Rows.{overridden_from};
@@ -6,7 +6,7 @@ ghost use Rattle.map_table.specs.Rows.{overridden_from};
 use crate::{ExtentTree, Stretch};
 use arrayvec::ArrayVec;
 
-/// The first extents after number i that have a byte of the stretch, at most three, by their numbers.
+/// Returns the numbers of the first extents after number i that contain a byte of the stretch, at most three.
 pub(crate) fn overridden(extents: &ExtentTree, i: usize, stretch: &Stretch) -> ArrayVec<usize, 3>
     requires { i < length extents.now }
     ensures { result.items ≡ take 3 (overridden_from (i + 1)

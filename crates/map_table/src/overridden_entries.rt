@@ -1,4 +1,4 @@
-//! All entries that a deciding entry overrides, by what they match.
+//! All entries that a deciding entry overrides, by the addresses that they match.
 
 ghost use Rattle.std.specs.Prelude.{◌≡◌, ◌+◌, ◌<◌, IfOk, drop, length};
 ghost use Rattle.map_table.specs.Rows.{overridden_from};
@@ -7,7 +7,8 @@ use crate::{ExtentTree, Stretch};
 use permission_map::Memory;
 use std::alloc::Global;
 
-/// The extents after number i that have a byte of the stretch, by their numbers. The only error is out of memory.
+/// Returns the numbers of the extents after number i that contain a byte of the stretch. The only error is a failed
+/// allocation.
 pub(crate) fn all_overridden(
     alloc: Global,
     extents: &ExtentTree,

@@ -1,4 +1,4 @@
-//! Rows of a text, written one after another.
+//! Writes the rows of a text one after another.
 
 ghost use Rattle.std.specs.Prelude.{◌≡◌, ◌<◌, ◌≤◌, ◌++◌, List, ℕ, map};
 ghost use Rattle.std.specs.List.{concat};
@@ -14,15 +14,15 @@ pub(crate) struct Row {
     pub(crate) back: Line,
 }
 
-/// What makes rows.
+/// A source of rows.
 pub(crate) trait Rows {
     /// The text of row i.
     ghost row_text: { Self → ℕ → List ℕ };
 
-    /// How many rows there are at most.
+    /// The maximum number of rows.
     ghost most: { Self → ℕ };
 
-    /// Row i.
+    /// Returns row i.
     fn row(&self, i: usize) -> Row
         requires { i < most self.now }
         ensures { result.front ++ result.back ≡ row_text self.now i };
@@ -51,7 +51,7 @@ fn print_rows<R: Rows, W: Sink>(rows: &R, count: usize, out: &mut W) -> Result<(
     Ok(())
 }
 
-/// Writes a text, and rows after it.
+/// Writes a text, followed by rows.
 pub(crate) fn print_section<R: Rows, W: Sink>(
     text: &[u8],
     rows: &R,
@@ -67,7 +67,7 @@ pub(crate) fn print_section<R: Rows, W: Sink>(
     Ok(())
 }
 
-/// Writes texts, one after another.
+/// Writes texts one after another.
 pub(crate) fn print_texts<W: Sink>(texts: &[&[u8]], out: &mut W) -> Result<(), DeviceFault>
     ensures { Prints (concat (map (λ s. s.now) texts.now))
         (writing W.contents W.failures W.stalls out.old out.new) result }
@@ -78,7 +78,7 @@ pub(crate) fn print_texts<W: Sink>(texts: &[&[u8]], out: &mut W) -> Result<(), D
     Ok(())
 }
 
-/// Writes texts one after another, and rows after them.
+/// Writes texts one after another, followed by rows.
 pub(crate) fn print_titled<R: Rows, W: Sink>(
     texts: &[&[u8]],
     rows: &R,
@@ -95,7 +95,7 @@ pub(crate) fn print_titled<R: Rows, W: Sink>(
     Ok(())
 }
 
-/// Writes rows, and other rows after them.
+/// Writes rows, followed by other rows.
 pub(crate) fn print_both<A: Rows, B: Rows, W: Sink>(
     rows: &A,
     count: usize,

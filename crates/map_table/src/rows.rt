@@ -1,4 +1,4 @@
-//! The rows of a table, for people, and the lines around them.
+//! Human-readable rows of a table, and the lines around them.
 
 ghost use Rattle.std.specs.Prelude.{◌<◌, All, length};
 ghost use Rattle.map_table.specs.Rows.{IsRow};
@@ -17,7 +17,7 @@ use text_lines::{Line, push_text};
 /// The words of a row.
 pub(crate) type Words = ArrayString<128>;
 
-/// Makes a line of these words.
+/// Converts words to a line.
 fn line_of(words: &Words) -> Line {
     let mut line = Line::new();
     let bytes = words.as_str().as_bytes();
@@ -47,7 +47,7 @@ fn write_overridden(words: &mut Words, behind: &[usize]) -> fmt::Result {
     }
 }
 
-/// Makes the line of the deciding entry and the entries that it overrides.
+/// Returns the line of the deciding entry and the entries that it overrides.
 pub fn number_line(extents: &ExtentTree, i: usize, stretch: &Stretch) -> Line
     requires { i < length extents.now }
 {
@@ -59,10 +59,23 @@ pub fn number_line(extents: &ExtentTree, i: usize, stretch: &Stretch) -> Line
     line_of(&words)
 }
 
+/// The bit of a configuration byte that locks its entry.
+const LOCK: u8 = 0x80;
+
+/// Returns the text of the lock bit of entry i, which is empty if there are no configuration bytes.
+fn lock_text(cfgs: &[u8], i: usize) -> &'static str {
+    match cfgs.get(i) {
+        Some(cfg) if *cfg & LOCK != 0 => "L ",
+        Some(_) => "- ",
+        None => "",
+    }
+}
+
 /// Appends the row of a stretch, if an entry decides it.
 fn push_row(
     text: &mut Vec<u8>,
     extents: &ExtentTree,
+    cfgs: &[u8],
     stretch: &Stretch,
     perm: Perm,
 ) -> Result<(), Memory>
@@ -73,34 +86,38 @@ fn push_row(
     };
     let mut words = Words::new();
     let _ = write_range(&mut words, stretch, perm);
+    let _ = write!(words, "{}", lock_text(cfgs, i));
     text.extend_from_slice(words.as_str().as_bytes())?;
     text.extend_from_slice(number_line(extents, i, stretch).as_slice())?;
     Ok(())
 }
 
-/// Appends a row for each stretch that an entry decides. Its permission is the one that the entry gives, or the one of the map.
+/// Appends a row for each stretch that an entry decides, with the permission of the map, or of the entry if there are configuration
+/// bytes.
 pub(crate) fn push_rows(
     text: &mut Vec<u8>,
     extents: &ExtentTree,
+    cfgs: &[u8],
     all: &[Stretch],
-    is_given: bool,
 ) -> Result<(), Memory>
     requires { All (IsRow extents.now) all.now }
 {
     for stretch in all {
-        let perm = if is_given {
-            stretch.given
-        } else {
+        let perm = if cfgs.is_empty() {
             stretch.wanted
+        } else {
+            stretch.given
         };
-        push_row(text, extents, stretch, perm)?;
+        push_row(text, extents, cfgs, stretch, perm)?;
     }
     Ok(())
 }
 
-/// Appends the row of all stretches that no entry decides, if one begins in the space before `end`. They have this permission.
+/// Appends the row of all stretches that no entry decides, with this permission, if one begins in the space before
+/// `end`.
 pub(crate) fn push_rest(
     text: &mut Vec<u8>,
+    cfgs: &[u8],
     all: &[Stretch],
     perm: Perm,
     end: u64,
@@ -113,25 +130,27 @@ pub(crate) fn push_rest(
     }
     text.extend_from_slice(b"all else                                       ")?;
     text.extend_from_slice(letters(perm).as_bytes())?;
+    if !cfgs.is_empty() {
+        text.extend_from_slice(b"  ")?;
+    }
     text.extend_from_slice(b"  no entry\n")?;
     Ok(())
 }
 
-/// Makes the line of the number of entries and whether they fit the limit.
+/// Returns the line of the fewest NA4 and NAPOT entries and whether they fit the limit.
 pub fn count_line(count: usize, limit: Limit) -> Line {
     let number = limit.number();
-    let entries = if count == 1 { "entry" } else { "entries" };
     let fits = if number as usize >= count {
         "fits"
     } else {
         "does not fit"
     };
     let mut words = Words::new();
-    let _ = writeln!(words, "{count} {entries}: fewest possible; {fits} {number}");
+    let _ = writeln!(words, "fewest NA4/NAPOT entries: {count}; {fits} {number}");
     line_of(&words)
 }
 
-/// Makes the line of the number of entries that are not OFF.
+/// Returns the line of the number of entries that are not OFF.
 pub(crate) fn on_line(on: usize) -> Line {
     let entries = if on == 1 { "entry is" } else { "entries are" };
     let mut words = Words::new();

@@ -5,7 +5,7 @@ ghost use Rattle.map_table.specs.SharedTexts.{kept_bits, shared_word_count};
 
 use pmp_encoding::{Limit, Xlen};
 
-/// How many words are shared.
+/// Returns the number of shared words.
 pub(crate) fn shared_word_count(xlen: Xlen, limit: Limit, first: u8) -> usize
     ensures value { result ≡ shared_word_count xlen limit first }
     ensures most { result ≤ 1 }
@@ -17,7 +17,7 @@ pub(crate) fn shared_word_count(xlen: Xlen, limit: Limit, first: u8) -> usize
     }
 }
 
-/// The bits of the entries below the first in the word that it is in.
+/// Returns the mask of the entries below the first in their shared word.
 pub(crate) fn kept_bits(xlen: Xlen, first: u8) -> u64
     ensures { result ≡ kept_bits xlen first }
 {

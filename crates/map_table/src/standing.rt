@@ -1,4 +1,4 @@
-//! What a map says of the pages from one on.
+//! The permission of a map from a page on.
 
 ghost use Rattle.std.specs.Prelude.{◌≡◌, ◌≢◌, ℕ, ◌+◌, ◌^◌, ◌<◌, ◌≤◌};
 ghost use Rattle.pmp_encoding.specs.declared.perm.Perm.TheVariants.{NoAccess};
@@ -14,7 +14,7 @@ pub(crate) struct Standing {
     pub(crate) wanted: Perm,
 }
 
-/// What the map says from the page on, as far as it stays the same.
+/// Returns the permission of the map at a page, and how far it stays the same.
 pub(crate) fn standing_from(map: &PermissionMap, page: u64) -> Standing
     requires { page < 2 ^ 44 }
     ensures some { page < result.end }

@@ -14,23 +14,23 @@ use pmp_encoding::{Entry, PAGE_SIZE, Perm, SPACE_SIZE};
 use pmp_match::{Extent, extent_of};
 use std::alloc::Global;
 
-/// The bytes from `first` to before `end`, on which a map has one permission and one extent of a list,
-/// or none, is the first that has each byte.
+/// The bytes from `first` up to `end`, on which a map has one permission and the same extent of a list, or none, is the
+/// first that contains each byte.
 #[derive(Clone, Copy, PartialEq, Eq, Debug)]
 pub struct Stretch {
     /// Its lowest byte.
     pub first: u64,
     /// The first byte after it, at most 2^56.
     pub end: u64,
-    /// What the map says of it.
+    /// The permission of the map.
     pub wanted: Perm,
-    /// What the deciding extent says of it: no access where there is none.
+    /// The permission of the deciding extent, or no access if there is none.
     pub given: Perm,
     /// The number of the deciding extent in the list, which is that of its entry.
     pub entry: Option<usize>,
 }
 
-/// The stretch from a byte on.
+/// Returns the stretch from a byte on.
 fn stretch_from(map: &PermissionMap, extents: &ExtentTree, at: u64) -> Stretch
     requires at { at < 2 ^ 56 }
     requires words { All IsWords extents.now }
@@ -49,8 +49,8 @@ fn stretch_from(map: &PermissionMap, extents: &ExtentTree, at: u64) -> Stretch
     }
 }
 
-/// The maximal stretches of one permission of the map and one deciding extent, in order, from byte 0 to
-/// the end of the space. The only error is out of memory.
+/// Returns the maximal stretches of one permission of the map and one deciding extent, in order, from byte 0 to the end
+/// of the space. The only error is a failed allocation.
 pub fn stretches(
     alloc: Global,
     map: &PermissionMap,
@@ -71,7 +71,7 @@ pub fn stretches(
     Ok(all)
 }
 
-/// What each entry of a list matches. The only error is out of memory.
+/// Returns the addresses that each entry of a list matches. The only error is a failed allocation.
 pub fn extents_of(alloc: Global, entries: &[Entry]) -> Result<Vec<Extent>, Memory>
     ensures { IfOk result (λ all. all.items ≡ matched_by entries.now) }
 {
@@ -82,7 +82,7 @@ pub fn extents_of(alloc: Global, entries: &[Entry]) -> Result<Vec<Extent>, Memor
     Ok(all)
 }
 
-/// The same for a list of NA4 and NAPOT entries.
+/// Returns the stretches for a list of NA4 and NAPOT entries.
 pub fn stretches_by_entries(
     alloc: Global,
     map: &PermissionMap,

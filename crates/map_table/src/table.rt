@@ -1,4 +1,4 @@
-//! The whole table, for people.
+//! The whole table as text.
 
 ghost use Rattle.std.specs.Prelude.{All};
 ghost use Rattle.pmp_match.specs.RegisterDecision.{IsWords};
@@ -16,7 +16,10 @@ const SPACE_END: u64 = 1 << 56;
 /// The names of the columns.
 const HEAD: &[u8] = b"from               to                 size    perm by\n";
 
-/// Makes the table of a map and a list of entries, for a hart of that limit. The only error is out of memory.
+/// The names of the columns of registers; L is the lock bit.
+const REGISTER_HEAD: &[u8] = b"from               to                 size    perm L by\n";
+
+/// Returns the table of a map and a list of entries, for a hart with this limit. The only error is a failed allocation.
 pub fn table_of(
     alloc: Global,
     map: &PermissionMap,
@@ -28,21 +31,23 @@ pub fn table_of(
     let tree = ExtentTree::new(alloc, extents.as_slice())?;
     let mut text = Vec::new(alloc);
     text.extend_from_slice(HEAD)?;
-    push_rows(&mut text, &tree, all.as_slice(), false)?;
-    push_rest(&mut text, all.as_slice(), Perm::NoAccess, SPACE_END)?;
+    push_rows(&mut text, &tree, &[], all.as_slice())?;
+    push_rest(&mut text, &[], all.as_slice(), Perm::NoAccess, SPACE_END)?;
     let count = count_line(entries.len(), limit);
     text.extend_from_slice(count.as_slice())?;
     Ok(text)
 }
 
-/// Makes the table of what extents give in a space of that many bytes. Everything else has the permission `rest`, and `on` entries
-/// are not OFF. The only error is out of memory.
+/// Returns the table of the permissions that extents give, in a space of this size, with a column for the lock bits of their
+/// configuration bytes. Everything else has the permission `rest`, and `on` entries are not OFF. The only error is a failed
+/// allocation.
 pub fn extent_table(
     alloc: Global,
     extents: &[Extent],
     space_end: u64,
     rest: Perm,
     on: usize,
+    cfgs: &[u8; 64],
 ) -> Result<Vec<u8>, Memory>
     requires { All IsWords extents.now }
 {
@@ -50,9 +55,9 @@ pub fn extent_table(
     let all = stretches(alloc, &map, extents)?;
     let tree = ExtentTree::new(alloc, extents)?;
     let mut text = Vec::new(alloc);
-    text.extend_from_slice(HEAD)?;
-    push_rows(&mut text, &tree, all.as_slice(), true)?;
-    push_rest(&mut text, all.as_slice(), rest, space_end)?;
+    text.extend_from_slice(REGISTER_HEAD)?;
+    push_rows(&mut text, &tree, cfgs, all.as_slice())?;
+    push_rest(&mut text, cfgs, all.as_slice(), rest, space_end)?;
     let count = on_line(on);
     text.extend_from_slice(count.as_slice())?;
     Ok(text)

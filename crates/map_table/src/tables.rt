@@ -11,7 +11,7 @@ use permission_map::{Memory, PermissionMap};
 use pmp_encoding::{Entry, Limit};
 use std::alloc::Global;
 
-/// The table of a map and a list of entries as one JSON object. The only error is out of memory.
+/// Returns the table of a map and a list of entries as one JSON object. The only error is a failed allocation.
 pub fn json_table(
     alloc: Global,
     map: &PermissionMap,
@@ -31,7 +31,8 @@ pub fn json_table(
     Ok(text)
 }
 
-/// Draws the table of a map and a list of entries as an SVG of at most 1024 bands and gaps. The only error is out of memory.
+/// Draws the table of a map and a list of entries as an SVG of at most 1024 bands and gaps. The only error is a failed
+/// allocation.
 pub fn picture(
     alloc: Global,
     map: &PermissionMap,

@@ -1,4 +1,4 @@
--- Entries that are on a hart from one of its entries on.
+-- Entries placed on a hart, starting at one of the hart's entries.
 use Rattle.std.specs.Prelude.{ℕ, ◌+◌, ◌-◌, ◌*◌, nat_lt, if◌then◌else◌, List, [], ◌∷◌, map, Option}
 use Rattle.std.specs.Prelude.{Some, None, slice_get}
 use Rattle.std.specs.Int.{Width, from_le_bytes, w32, w64}
@@ -8,11 +8,11 @@ use Rattle.pmp_encoding.specs.declared.xlen.Xlen.{Xlen}
 use Rattle.pmp_encoding.specs.declared.xlen.Xlen.TheVariants.{Rv32, Rv64}
 use Rattle.pmp_encoding.specs.Widths.{word_entries}
 
--- what is at entry i of the hart: nothing below the first, and after the last
+-- entry i of the hart, or `None` below the first and after the last
 abbrev pub entry_from : ℕ → List Entry → ℕ → Option Entry
 entry_from first entries i = if nat_lt i first then None else slice_get entries (i - first)
 
--- the configuration byte of an entry, and zero where there is none
+-- the configuration byte of an entry, or zero if it is missing
 abbrev pub cfg_or_zero : Option Entry → ℕ
 cfg_or_zero (Some e) = cfg_of e
 cfg_or_zero None = 0
@@ -21,12 +21,12 @@ cfg_or_zero None = 0
 abbrev pub cfg_from : ℕ → List Entry → ℕ → ℕ
 cfg_from first entries i = cfg_or_zero (entry_from first entries i)
 
--- a register as a number of that many bits
+-- a register as a number of its width
 abbrev pub width_of : Xlen → Width
 width_of Rv32 = w32
 width_of Rv64 = w64
 
--- the places of the entries of a configuration word, from its first one
+-- the positions of the entries in a configuration word
 abbrev pub places_in_word : Xlen → List ℕ
 places_in_word Rv32 = 0 ∷ 1 ∷ 2 ∷ 3 ∷ []
 places_in_word Rv64 = 0 ∷ 1 ∷ 2 ∷ 3 ∷ 4 ∷ 5 ∷ 6 ∷ 7 ∷ []

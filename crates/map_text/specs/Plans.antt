@@ -1,4 +1,4 @@
--- What `plan` prints.
+-- The output of `plan`.
 use Rattle.std.specs.Prelude.{◌≡◌, ℕ, ◌+◌, ◌-◌, ◌<◌, ◌≤◌, zero, suc, List, [], ◌∷◌, ◌++◌, length}
 use Rattle.pmp_encoding.specs.declared.limit.Limit.{Limit}
 use Rattle.pmp_encoding.specs.declared.region.Entry.{Entry}
@@ -15,7 +15,7 @@ entries_text xlen i [] = []
 entries_text xlen i (entry ∷ entries) = entry_text xlen i (cfg_of entry) (address_of entry)
     ++ entries_text xlen (i + 1) entries
 
--- the number of entries, and a line for each, which are from entry `first` on
+-- the number of entries, and a line for each, numbered from `first` on
 abbrev pub list_text : Xlen → ℕ → List Entry → List ℕ
 list_text xlen first entries = count_text (length entries) ++ entries_text xlen first entries
 
@@ -26,8 +26,8 @@ words_text xlen first entries i (suc count) =
     word_text xlen (word_number xlen i) (word_from xlen first entries i)
     ++ words_text xlen first entries (i + 1) count
 
--- the number of entries, a line for each, and after them the words that have none below the first,
--- where the hart has room for the entries
+-- the number of entries, a line for each, and the words without an entry below the first, if the
+-- hart has room for the entries
 pub record IsPlanText (xlen : Xlen) (limit : Limit) (first : ℕ) (entries : List Entry)
     (text : List ℕ) : Type 0 where
   pub words : List ℕ

@@ -1,4 +1,4 @@
--- What the program prints.
+-- The lines that the program prints.
 use Rattle.std.specs.Prelude.{ℕ, List, ◌++◌, codes, decimal}
 use Rattle.hex.specs.Hex.{encode_lower}
 use Rattle.text_lines.specs.Written.{hex}
@@ -13,12 +13,12 @@ count_text n = codes "entries " ++ decimal n ++ codes "\n"
 abbrev pub register_text : Xlen → ℕ → List ℕ
 register_text xlen value = hex (register_digits xlen) value
 
--- `I 0xCC 0xAAAAAAAAAAAAAAAA`, and with 32 bits `I 0xCC 0xAAAAAAAA`
+-- `I 0xCC 0xAAAAAAAAAAAAAAAA`, or with 32 bits `I 0xCC 0xAAAAAAAA`
 abbrev pub entry_text : Xlen → ℕ → ℕ → ℕ → List ℕ
 entry_text xlen i cfg addr = decimal i ++ codes " 0x" ++ hex 2 cfg ++ codes " 0x"
     ++ register_text xlen addr ++ codes "\n"
 
--- `pmpcfgK 0xWWWWWWWWWWWWWWWW`, and with 32 bits `pmpcfgK 0xWWWWWWWW`
+-- `pmpcfgK 0xWWWWWWWWWWWWWWWW`, or with 32 bits `pmpcfgK 0xWWWWWWWW`
 abbrev pub word_text : Xlen → ℕ → ℕ → List ℕ
 word_text xlen k word = codes "pmpcfg" ++ decimal k ++ codes " 0x" ++ register_text xlen word
     ++ codes "\n"

@@ -1,4 +1,4 @@
-//! The measurement of an enclave, as it is printed.
+//! The printed measurement of an enclave.
 
 ghost use Rattle.std.specs.Prelude.{◌≡◌};
 ghost use Rattle.hex.specs.Hex.{encode_lower};
@@ -6,7 +6,7 @@ ghost use Rattle.map_text.specs.Texts.{measure_text};
 
 use text_lines::{Line, push_decimal, push_text};
 
-/// The 64 lower-case hexadecimal digits of a digest.
+/// Returns the 64 lower-case hexadecimal digits of a digest.
 pub fn digest_text(digest: &[u8; 32]) -> [u8; 64]
     ensures { result ≡ encode_lower digest.now }
 {
@@ -17,7 +17,7 @@ pub fn digest_text(digest: &[u8; 32]) -> [u8; 64]
     text
 }
 
-/// `measure ID DIGEST`.
+/// Returns `measure ID DIGEST`.
 pub fn measure_line(id: u64, digest: &[u8; 32]) -> Line
     ensures { result ≡ measure_text id digest.now }
 {

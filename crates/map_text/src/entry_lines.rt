@@ -1,4 +1,4 @@
-//! The lines of entries, put one after another into a buffer.
+//! Writes the lines of entries into a buffer.
 
 ghost use Rattle.std.specs.Prelude.{◌≡◌, ℕ, ◌+◌, ◌*◌, ◌<◌, ◌≤◌, ◌^◌, ◌++◌, take, length, codes, decimal};
 ghost use Rattle.pmp_encoding.specs.Encoding.{address_of, cfg_of};
@@ -10,10 +10,11 @@ ghost use Rattle.map_text.specs.Texts.{entry_text, register_text};
 use pmp_encoding::{PackedEntry, Xlen};
 use text_lines::{Counter, hex_digit, hex_digits};
 
-/// The most bytes that are put for an entry: what comes after a short number is put too, and written over.
+/// Maximum number of bytes that are written for an entry: bytes after a short number are written too, and then
+/// overwritten.
 pub const MOST: usize = 46;
 
-/// Puts a text at a place, and answers the place after it.
+/// Writes a text at an index, and returns the index after it.
 #[inline(always)]
 fn put(buffer: &mut [u8], at: usize, text: &[u8]) -> usize
     requires room { at + length text.now ≤ length buffer.old }
@@ -26,7 +27,7 @@ fn put(buffer: &mut [u8], at: usize, text: &[u8]) -> usize
     end
 }
 
-/// Puts a number in decimal.
+/// Writes a number in decimal.
 #[inline(always)]
 fn put_number(buffer: &mut [u8], at: usize, number: &Counter) -> usize
     requires room { at + 21 ≤ length buffer.old }
@@ -35,14 +36,14 @@ fn put_number(buffer: &mut [u8], at: usize, number: &Counter) -> usize
     ensures text { take result buffer.new ≡ take at buffer.old ++ digits_of number.now }
     ensures room { length buffer.new ≡ length buffer.old }
 {
-    // A copy of a length that the compiler knows takes no call.
+    // A copy whose length the compiler knows needs no call.
     let _ = put(buffer, at, number.front.as_slice());
     let end = at + number.len;
     buffer[end] = number.last;
     end + 1
 }
 
-/// Puts the two digits of a byte.
+/// Writes the two digits of a byte.
 #[inline(always)]
 fn put_byte(buffer: &mut [u8], at: usize, byte: u8) -> usize
     requires room { at + 2 ≤ length buffer.old }
@@ -53,7 +54,7 @@ fn put_byte(buffer: &mut [u8], at: usize, byte: u8) -> usize
     put(buffer, at, &[hex_digit(byte / 16), hex_digit(byte % 16)])
 }
 
-/// Puts all digits of a register.
+/// Writes all digits of a register.
 #[inline(always)]
 fn put_register(buffer: &mut [u8], at: usize, xlen: Xlen, value: u64) -> usize
     requires room { at + 16 ≤ length buffer.old }
@@ -67,8 +68,8 @@ fn put_register(buffer: &mut [u8], at: usize, xlen: Xlen, value: u64) -> usize
     }
 }
 
-/// Puts what comes before the digits of a register. Of an array of its own the compiler knows that it lies apart from the
-/// buffer.
+/// Writes the text before the digits of a register. It comes from a separate array, which the compiler knows not to
+/// overlap the buffer.
 #[inline(always)]
 fn put_prefix(buffer: &mut [u8], at: usize) -> usize
     requires room { at + 3 ≤ length buffer.old }
@@ -79,7 +80,7 @@ fn put_prefix(buffer: &mut [u8], at: usize) -> usize
     put(buffer, at, &[b' ', b'0', b'x'])
 }
 
-/// Puts the line of an entry.
+/// Writes the line of an entry.
 #[inline(always)]
 fn put_entry(
     buffer: &mut [u8],
@@ -104,7 +105,7 @@ fn put_entry(
     put(buffer, at, b"\n")
 }
 
-/// Puts the lines of entries, numbered from `first` on, at the front, and answers the place after them.
+/// Writes the lines of entries, numbered from `first` on, at the front, and returns the index after them.
 pub fn put_entries(buffer: &mut [u8], xlen: Xlen, entries: &[PackedEntry], first: u64) -> usize
     requires room { 46 * length entries.now ≤ length buffer.old }
     requires numbers { first + length entries.now < 2 ^ 64 }

@@ -1,4 +1,4 @@
-//! Sizes and permissions in words.
+//! Sizes and permissions as text.
 
 ghost use Rattle.std.specs.Prelude.{◌≡◌, ◌++◌, ◌+◌, ◌<◌, ◌≤◌, length};
 ghost use Rattle.map_text.specs.PrintedFields.{counted_in, letters_of, size_text};
@@ -6,7 +6,7 @@ ghost use Rattle.map_text.specs.PrintedFields.{counted_in, letters_of, size_text
 use pmp_encoding::Perm;
 use text_lines::{Line, push_decimal, push_text};
 
-/// The letters of a permission, and a hyphen for each that it lacks.
+/// Returns the letters of a permission, with a hyphen for each one that it lacks.
 pub fn letters(perm: Perm) -> &'static str
     ensures value { result.now ≡ letters_of perm }
     ensures length { length result.now ≡ 3 }
@@ -21,7 +21,7 @@ pub fn letters(perm: Perm) -> &'static str
     }
 }
 
-/// Appends how many units there are, and the unit's name.
+/// Appends the number of units, and the unit's name.
 fn push_in(line: &mut Line, size: u64, unit: u64, name: &str)
     requires unit { 0 < unit }
     requires name { length name.now ≤ 4 }
@@ -33,7 +33,7 @@ fn push_in(line: &mut Line, size: u64, unit: u64, name: &str)
     push_text(line, name.as_bytes());
 }
 
-/// Appends a number of bytes in the largest unit that counts it whole, as `4 B`, `126 MiB` or `64 PiB`.
+/// Appends a number of bytes in the largest unit that divides it, such as `4 B`, `126 MiB` or `64 PiB`.
 pub fn push_size(line: &mut Line, size: u64)
     requires room { length line.old + 24 ≤ 128 }
     ensures items { line.new ≡ line.old ++ size_text size }

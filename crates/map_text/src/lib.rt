@@ -1,8 +1,9 @@
-//! The text of a map and of its plan: parses the lines of a map file, and prints the lines of a plan.
+//! Parses the lines of a map file, and prints maps and plans as text.
 //!
-//! Each line of a map sets a permission on whole pages, and a later line overrides an earlier one. [`map_of`] returns the map of a file,
-//! or the first line at fault; [`raw_says`] parses one line. A map file has at most [`MAP_BYTES`]. [`print_plan`] writes the lines of a
-//! list of entries to a sink. The functions that end in `_line` return one line in a buffer of fixed length.
+//! Each line of a map sets a permission on whole pages, and a later line overrides an earlier one. [`map_of`] returns
+//! the map of a file, or the first invalid line; [`raw_says`] parses one line. A map file has at most [`MAP_BYTES`].
+//! [`print_plan`] writes the lines of a list of entries to a sink. The functions that end in `_line` return one line in
+//! a buffer of fixed length.
 //!
 //! ```rust
 //! let map = map_of(rt.alloc(), b"0x80000000 0x1000 rwx\n")?;

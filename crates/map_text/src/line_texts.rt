@@ -1,4 +1,4 @@
-//! The lines that the program prints, in a buffer of a fixed length.
+//! The lines that the program prints, in buffers of fixed length.
 
 ghost use Rattle.std.specs.Prelude.{◌≡◌, ◌+◌, ◌≤◌, ◌++◌, length};
 ghost use Rattle.map_text.specs.Texts.{accepted_of_text, accepted_text, count_text, refused_text, register_text, word_text};
@@ -6,7 +6,7 @@ ghost use Rattle.map_text.specs.Texts.{accepted_of_text, accepted_text, count_te
 use pmp_encoding::Xlen;
 use text_lines::{Line, push_decimal, push_hex, push_text};
 
-/// `entries N`.
+/// Returns `entries N`.
 pub fn count_line(n: u64) -> Line
     ensures { result ≡ count_text n }
 {
@@ -27,7 +27,7 @@ pub fn push_register(line: &mut Line, xlen: Xlen, value: u64)
     push_hex(line, value, xlen.digits());
 }
 
-/// `pmpcfgK 0xWWWWWWWWWWWWWWWW`, or with a word of 32 bits.
+/// Returns `pmpcfgK 0xWWWWWWWWWWWWWWWW`, or the same with a word of 32 bits.
 pub fn word_line(xlen: Xlen, k: u64, word: u64) -> Line
     ensures { result ≡ word_text xlen k word }
 {
@@ -40,7 +40,7 @@ pub fn word_line(xlen: Xlen, k: u64, word: u64) -> Line
     line
 }
 
-/// `accepted N`.
+/// Returns `accepted N`.
 pub fn accepted_line(n: u64) -> Line
     ensures { result ≡ accepted_text n }
 {
@@ -51,7 +51,7 @@ pub fn accepted_line(n: u64) -> Line
     line
 }
 
-/// `accepted N of L`.
+/// Returns `accepted N of L`.
 pub fn accepted_of_line(n: u64, limit: u64) -> Line
     ensures { result ≡ accepted_of_text n limit }
 {
@@ -64,7 +64,7 @@ pub fn accepted_of_line(n: u64, limit: u64) -> Line
     line
 }
 
-/// `refused CODE NAME`.
+/// Returns `refused CODE NAME`.
 pub fn refused_line(code: u64, name: &str) -> Line
     requires { length name.now ≤ 32 }
     ensures { result ≡ refused_text code name.now }

@@ -9,24 +9,24 @@ use std::alloc::Global;
 use text_lines::{AT_ONCE, LineReader, next_line};
 use thiserror::Error;
 
-/// How many bytes a map file may have.
+/// Maximum size of a map file in bytes.
 pub const MAP_BYTES: usize = 1 << 20;
 
-/// Why a file gives no map.
+/// The reason why a file is not a map.
 #[derive(Clone, Copy, Debug, PartialEq, Eq, Error)]
 pub enum MapFileFault {
-    /// The line of this number, from 1, is not understood.
+    /// The line with this number, from 1, is invalid.
     #[error("line {0} is not understood")]
     Line(u64),
     /// After some line there would be more than 4096 ranges.
     #[error("too many ranges")]
     TooManyRanges,
-    /// Memory was refused, for the first range or for the map at the end.
+    /// An allocation failed, for the first range or for the map at the end.
     #[error("out of memory")]
     Memory,
 }
 
-/// Why a line is not followed.
+/// The reason why a line was not applied.
 #[derive(Clone, Copy)]
 enum LineFault {
     NotUnderstood,
@@ -34,7 +34,7 @@ enum LineFault {
     Memory,
 }
 
-/// Does to the map what a line says.
+/// Applies a line to the map.
 fn follow(map: &mut MapBuilder, line: &[u8]) -> Result<(), LineFault>
     ensures said { OnOk result (Leads (line_says line.now) map.old map.new) }
     ensures unknown { result ≡ Err LineFault.NotUnderstood → line_says line.now ≡ None }
@@ -56,10 +56,10 @@ fn follow(map: &mut MapBuilder, line: &[u8]) -> Result<(), LineFault>
     }
 }
 
-/// The map that the lines of a file make, from the map of no permission on.
+/// Returns the map of the lines of a file, starting from the map that allows nothing.
 ///
-/// The first line at fault answers: it is not understood, or after it there would be more than 4096 ranges. Memory can be
-/// refused for the first range that the lines set, and for the map at the end where it has a range.
+/// Fails at the first line that is invalid, or that would leave more than 4096 ranges. Allocates for the first range,
+/// and for the map at the end if it has a range.
 pub fn map_of(alloc: Global, bytes: &[u8]) -> Result<PermissionMap, MapFileFault>
     requires { length bytes.now < 2 ^ 64 - 1 }
     ensures made { IfOk result (Makes bytes.now) }

@@ -11,7 +11,7 @@ use text_lines::{
     without_return,
 };
 
-/// Bytes in whole pages, as pages.
+/// Converts bytes to pages, if they are whole pages.
 fn pages_of(bytes: u64) -> Option<u64>
     ensures { result ≡ pages_of bytes }
 {
@@ -21,7 +21,7 @@ fn pages_of(bytes: u64) -> Option<u64>
     Some(bytes / PAGE_SIZE)
 }
 
-/// The pages that a word counts in bytes.
+/// Parses a number of bytes and returns it as pages.
 fn pages_in(word: &[u8]) -> Option<u64>
     ensures { result ≡ pages_in word.now }
 {
@@ -29,7 +29,7 @@ fn pages_in(word: &[u8]) -> Option<u64>
     pages_of(bytes)
 }
 
-/// The permission on those pages, where they lie in the space.
+/// Returns the permission on these pages, if they are inside the space.
 fn setting_on(first: u64, count: u64, perm: Perm) -> Option<Run>
     ensures value { result ≡ setting_on first count perm }
     ensures inside { IfSome result (λ setting. setting.first + setting.count ≤ 2 ^ 44) }
@@ -40,7 +40,7 @@ fn setting_on(first: u64, count: u64, perm: Perm) -> Option<Run>
     Some(Run { first, count, perm })
 }
 
-/// What three words set.
+/// Parses the three words of a setting.
 fn setting_of(base: &[u8], size: &[u8], perm: &[u8]) -> Option<Run>
     ensures value { result ≡ setting_of (base.now ∷ size.now ∷ perm.now ∷ []) }
     ensures inside { IfSome result (λ setting. setting.first + setting.count ≤ 2 ^ 44) }
@@ -51,8 +51,9 @@ fn setting_of(base: &[u8], size: &[u8], perm: &[u8]) -> Option<Run>
     setting_on(first, count, perm)
 }
 
-/// What the line sets in its plainest spelling, as `0x80000000 0x1000 rwx`: one space between two words, hexadecimal numbers, and
-/// nothing else. Most lines of a large map are such, and they are read in one pass. None says nothing of the line.
+/// Parses a line in its plainest form, such as `0x80000000 0x1000 rwx`: single spaces between words, hexadecimal
+/// numbers, and nothing else. Most lines of a large map have this form, and are parsed in one pass. `None` means
+/// nothing about the line.
 #[inline(always)]
 fn plain_setting(line: &[u8]) -> Option<Run>
     ensures says { IfSome result (λ setting. line_says line.now ≡ Some (Some setting)) }
@@ -70,7 +71,7 @@ fn plain_setting(line: &[u8]) -> Option<Run>
     setting_on(first, count, perm)
 }
 
-/// What the words of a line say that comes without its LF and its CR: nothing where it has none.
+/// Parses the words of a line without its LF and CR. A line without words sets nothing.
 fn words_say(line: &[u8]) -> Result<Option<Run>, NotUnderstood>
     ensures value { result_ok result ≡ line_says line.now }
     ensures inside { IfOk result (λ said.
@@ -95,7 +96,7 @@ fn words_say(line: &[u8]) -> Result<Option<Run>, NotUnderstood>
     }
 }
 
-/// What a line says that comes without its LF and its CR: nothing where it has no words.
+/// Parses a line without its LF and CR. A line without words sets nothing.
 pub(crate) fn line_says(line: &[u8]) -> Result<Option<Run>, NotUnderstood>
     ensures value { result_ok result ≡ line_says line.now }
     ensures inside { IfOk result (λ said.
@@ -107,7 +108,7 @@ pub(crate) fn line_says(line: &[u8]) -> Result<Option<Run>, NotUnderstood>
     words_say(line)
 }
 
-/// What a line says that has at most 1023 bytes, its CR counted.
+/// Parses a line of at most 1023 bytes, including its CR.
 pub fn raw_says(raw: &[u8]) -> Result<Option<Run>, NotUnderstood>
     ensures value { result_ok result ≡ raw_says raw.now }
     ensures inside { IfOk result (λ said.

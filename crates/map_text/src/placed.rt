@@ -1,4 +1,4 @@
-//! Entries placed on a hart from one of its entries on.
+//! Entries placed on a hart, starting at one of the hart's entries.
 
 ghost use Rattle.std.specs.Prelude.{◌≡◌, ◌+◌, ◌-◌, ◌<◌, map};
 ghost use Rattle.std.specs.Int.{from_le_bytes, w32, w64};
@@ -7,7 +7,7 @@ ghost use Rattle.map_text.specs.Placed.{cfg_from, entry_from, places_in_word, wo
 
 use pmp_encoding::{Entry, Limit, PackedEntry, Xlen};
 
-/// What is at entry i of the hart.
+/// Returns entry i of the hart.
 pub fn entry_from(entries: &[PackedEntry], first: u8, i: usize) -> Option<Entry>
     ensures { result ≡ entry_from first entries.now i }
 {
@@ -21,7 +21,7 @@ pub fn entry_from(entries: &[PackedEntry], first: u8, i: usize) -> Option<Entry>
     }
 }
 
-/// The configuration byte of entry i of the hart.
+/// Returns the configuration byte of entry i of the hart.
 fn cfg_from(entries: &[PackedEntry], first: u8, i: usize) -> u8
     ensures { result ≡ cfg_from first entries.now i }
 {
@@ -31,7 +31,7 @@ fn cfg_from(entries: &[PackedEntry], first: u8, i: usize) -> u8
     }
 }
 
-/// A word of 32 bits, from that of entry `at` on.
+/// Returns a word of 32 bits, whose first byte is that of entry `at`.
 fn short_word(entries: &[PackedEntry], first: u8, at: usize) -> u64
     requires { at < 256 }
     ensures { result ≡ from_le_bytes w32 (map (λ j. cfg_from first entries.now (at + j))
@@ -45,7 +45,7 @@ fn short_word(entries: &[PackedEntry], first: u8, at: usize) -> u64
     ]))
 }
 
-/// A word of 64 bits, from that of entry `at` on.
+/// Returns a word of 64 bits, whose first byte is that of entry `at`.
 fn long_word(entries: &[PackedEntry], first: u8, at: usize) -> u64
     requires { at < 512 }
     ensures { result ≡ from_le_bytes w64 (map (λ j. cfg_from first entries.now (at + j))
@@ -63,7 +63,7 @@ fn long_word(entries: &[PackedEntry], first: u8, at: usize) -> u64
     ])
 }
 
-/// The i-th configuration word.
+/// Returns the i-th configuration word.
 pub fn word_from(xlen: Xlen, entries: &[PackedEntry], first: u8, i: usize) -> u64
     requires { i < 64 }
     ensures { result ≡ word_from xlen first entries.now i }
@@ -74,7 +74,7 @@ pub fn word_from(xlen: Xlen, entries: &[PackedEntry], first: u8, i: usize) -> u6
     }
 }
 
-/// How many entries the hart has from `first` on.
+/// Returns the number of entries of the hart from `first` on.
 pub fn room_from(first: u8, limit: Limit) -> usize
     ensures { result ≡ limit_number limit - first }
 {

@@ -1,4 +1,4 @@
-//! What `plan` prints.
+//! The output of `plan`.
 
 ghost use Rattle.std.specs.Prelude.{◌+◌, ◌-◌, ◌<◌, ◌≤◌, ◌^◌, length};
 ghost use Rattle.text_lines.specs.Writings.{writing, Prints, PrintsOne};
@@ -11,8 +11,8 @@ use crate::placed::{room_from, word_from};
 use pmp_encoding::{Limit, PackedEntry, Xlen};
 use text_lines::{DeviceFault, Sink, write_whole};
 
-/// How many entries' lines are put together before they go to the sink: more bytes than a `HeldSink` holds, which then
-/// hands them on without a copy.
+/// Number of entries whose lines are written to the sink at once: more bytes than a `HeldSink` holds, so that it passes
+/// them on without copying.
 const LINES: usize = 320;
 
 /// Writes a line for each entry.
@@ -56,7 +56,7 @@ fn print_list<W: Sink>(
     Ok(())
 }
 
-/// Writes the words below `end` that have no entry below the first, a line for each.
+/// Writes a line for each word below `end`, except words with an entry below the first.
 fn print_words<W: Sink>(
     xlen: Xlen,
     entries: &[PackedEntry],
@@ -81,11 +81,10 @@ fn print_words<W: Sink>(
     Ok(())
 }
 
-/// Writes the number of entries, a line for each, numbered from the first on, and the configuration words that have no entry
-/// below it, where the hart has room for the entries. Its address registers have to reach their regions.
+/// Writes the number of entries, a line for each, numbered from the first on, and the configuration words without an
+/// entry below the first, if the hart has room for the entries. Its address registers must reach the regions.
 ///
-/// On an `Err` a beginning of this text was written, not all of it, and the device failed, or took none of some bytes, in
-/// this call.
+/// On an `Err` only a beginning of this text was written, and the device failed, or accepted no bytes, in this call.
 pub fn print_plan<W: Sink>(
     xlen: Xlen,
     entries: &[PackedEntry],

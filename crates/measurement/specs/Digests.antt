@@ -1,10 +1,10 @@
--- What is measured of an enclave.
+-- The measurement of an enclave.
 use Rattle.std.specs.Prelude.{ℕ, ◌+◌, ◌/◌, List, [], ◌∷◌, zero, suc, ◌++◌, replicate}
 use Rattle.measurement.specs.Measured.{digest_of}
 use Rattle.measurement.specs.declared.measured.Layout.{Layout}
 use Rattle.measurement.specs.declared.request.Create.{Create}
 
--- the bytes of that many pages, by rising address
+-- the bytes of `count` pages from `first` on, by ascending address
 abbrev pub pages_from : (ℕ → List ℕ) → ℕ → ℕ → List (List ℕ)
 pages_from pages first zero = []
 pages_from pages first (suc count) = pages_from pages first count ++ (pages (first + count) ∷ [])
@@ -13,7 +13,7 @@ pages_from pages first (suc count) = pages_from pages first count ++ (pages (fir
 abbrev pub blank_page : List ℕ
 blank_page = replicate 4096 0
 
--- what is measured beside them
+-- the measured layout
 abbrev pub layout_of : Create → Layout
 layout_of parts =
     record {
@@ -23,8 +23,8 @@ layout_of parts =
       entry_offset = parts.entry_offset;
     }
 
--- the digest of an enclave with these parts, over its private pages as they are. The base is not
--- measured
+-- the digest of an enclave with these parts, over the current contents of its private pages. The
+-- base is not measured
 abbrev pub measured : (ℕ → List ℕ) → Create → List ℕ
 measured pages parts =
     digest_of (record {

@@ -1,4 +1,4 @@
-//! The measurement of an enclave's private pages.
+//! Measures an enclave's private pages.
 
 ghost use Rattle.std.specs.Prelude.{◌≡◌, ℕ, ◌+◌, ◌<◌, ◌≤◌, ◌==◌, ◌^◌, List, true};
 ghost use Rattle.std.specs.List.{list_all};
@@ -10,7 +10,7 @@ ghost use Rattle.measurement.specs.declared.request.Create.{Create};
 use crate::request::Create;
 use crate::{Layout, Measure};
 
-/// What gives the bytes of its pages.
+/// A provider of the bytes of pages.
 pub trait Pages {
     /// The bytes of each page, by its number.
     ghost bytes_of: { Self → ℕ → List ℕ };
@@ -21,7 +21,8 @@ pub trait Pages {
         ensures { into.new ≡ bytes_of self.now page };
 }
 
-/// Whether each byte of a page is zero. Each is looked at in any case, so that many can be at once.
+/// Returns whether every byte of a page is zero. All bytes are tested without an early exit, so that many can be tested
+/// at once.
 fn is_blank(page: &[u8; 4096]) -> bool
     ensures { result ≡ list_all (λ b. b == 0) page.now }
 {
@@ -32,7 +33,7 @@ fn is_blank(page: &[u8; 4096]) -> bool
     all
 }
 
-/// Whether this many pages from one on have no byte but zeros.
+/// Returns whether the `count` pages from `first` on contain only zeros.
 fn are_blank<P: Pages>(pages: &P, first: u64, count: u64) -> bool
     requires { first + count ≤ 2 ^ 44 }
     ensures { result ≡ true → (i : ℕ) → i < count
@@ -48,8 +49,8 @@ fn are_blank<P: Pages>(pages: &P, first: u64, count: u64) -> bool
     true
 }
 
-/// The digest over pages of zeros alone, with its layout. Most enclaves are made of pages that were never written, and many
-/// with one layout.
+/// The digest of a layout with pages of zeros only. Most enclaves consist of pages that were never written, and many
+/// share a layout.
 #[derive(Drop)]
 pub struct BlankDigest {
     layout: Layout,
@@ -58,7 +59,7 @@ pub struct BlankDigest {
         (λ page. blank_page) 0 (layout.text_pages + layout.data_pages)) },
 }
 
-/// The digest of an enclave with these parts, over its private pages as they are.
+/// Returns the digest of an enclave with these parts, over the current contents of its private pages.
 fn taken<P: Pages>(pages: &P, parts: &Create) -> [u8; 32]
     requires counts { HasCounts parts.now }
     requires places { HasPlaces parts.now }
@@ -75,8 +76,8 @@ fn taken<P: Pages>(pages: &P, parts: &Create) -> [u8; 32]
     measure.finish()
 }
 
-/// The digest of an enclave with these parts, over its private pages as they are. Where they are blank, it is the last one
-/// of such pages if that had the same layout, and otherwise it is kept.
+/// Returns the digest of an enclave with these parts, over the current contents of its private pages. For blank pages
+/// it reuses `last` if that has the same layout, and otherwise replaces `last`.
 pub fn enclave_digest<P: Pages>(
     last: &mut Option<BlankDigest>,
     pages: &P,
@@ -101,22 +102,23 @@ pub fn enclave_digest<P: Pages>(
     digest
 }
 
-/// Who knows as what an enclave is measured that is about to be created.
+/// Supplies the digest of the enclave being created.
 pub trait Digests {
     /// The digest of an enclave with these parts.
     ghost digest_of: { Self → Create → List ℕ };
 
-    /// The digest of an enclave with these parts. The last digest of blank pages is kept for the next one.
+    /// Returns the digest of an enclave with these parts. Keeps the last digest of blank pages in `last` for the next
+    /// call.
     fn digest(&self, last: &mut Option<BlankDigest>, parts: &Create) -> [u8; 32]
         requires counts { HasCounts parts.now }
         requires places { HasPlaces parts.now }
         ensures { result ≡ digest_of self.now parts.now };
 }
 
-/// What measures the private pages when it is asked, as they are then.
+/// Measures the private pages at the time of the call.
 #[derive(Drop)]
 pub struct MeasuresPages<'a, P> {
-    /// What gives the bytes of the pages.
+    /// The provider of the bytes of the pages.
     pub pages: &'a P,
 }
 
@@ -128,10 +130,10 @@ impl<P: Pages> Digests for MeasuresPages<'_, P> {
     }
 }
 
-/// A digest that was taken before it is asked for; or zeros, which stand in where the enclave is given its own after it was made.
+/// A digest taken earlier, or zeros as a placeholder if the enclave gets its digest after its creation.
 #[derive(Drop)]
 pub struct TakenDigest {
-    /// Its bytes.
+    /// The bytes of the digest.
     pub bytes: [u8; 32],
 }
 

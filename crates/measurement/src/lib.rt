@@ -1,14 +1,15 @@
-//! What is asked for when an enclave is created, and its measurement: SHA-256 (FIPS 180-4) over its layout and the bytes
-//! of its private pages. Nothing here takes memory.
+//! The parameters of an enclave's creation, and its measurement: SHA-256 (FIPS 180-4) over its layout and the bytes of
+//! its private pages.
 //!
-//! - A [`Create`] is the six numbers of a request. Each of its questions has one fact for an answer: whether there are not
-//!   too many pages, whether they lie in the space, whether it is entered in its text, and whether it has a page in common
-//!   with others.
-//! - A [`Measure`] that is begun with a layout and given pages one by one ends in the digest of exactly that layout and
-//!   those pages.
-//! - [`Digests`] is who knows the digest when an enclave is created: [`MeasuresPages`] measures the pages that [`Pages`]
-//!   copies, and a [`TakenDigest`] was taken before or stands in. Where all pages are zero, the digest may be the last one
-//!   of such pages, which a [`BlankDigest`] keeps.
+//! - A [`Create`] contains the six numbers of a request. Its methods check the number of pages, their location in the
+//!   space, the entry point in the text, and the absence of pages in common with others.
+//! - A [`Measure`] that begins with a layout and takes pages one by one returns the digest of that layout and those
+//!   pages.
+//! - [`Digests`] supplies the digest when an enclave is created: [`MeasuresPages`] measures the pages that [`Pages`]
+//!   copies, and a [`TakenDigest`] was taken earlier or is a placeholder. If all pages are zero, the digest may be
+//!   reused from the last enclave with such pages, which a [`BlankDigest`] stores.
+//!
+//! Nothing here allocates.
 //!
 //! ```
 //! let mut measure = Measure::begin(&layout);

@@ -1,4 +1,4 @@
-//! The measurement of an enclave, and the words of its digest.
+//! Measures an enclave, and reads the words of its digest.
 
 ghost use Rattle.std.specs.Prelude.{◌≡◌, ◌<◌, ◌*◌, ◌++◌, ◌∷◌, [], List, ℕ, drop};
 ghost use Rattle.byteorder.specs.Endian.{little_number};
@@ -10,7 +10,7 @@ use crate::measured::Layout;
 use byteorder::{ByteOrder, LittleEndian};
 use sha2::{Digest, Sha256};
 
-/// A measurement that is being taken.
+/// A measurement in progress.
 #[derive(Drop)]
 pub struct Measure {
     hasher: Sha256,
@@ -38,7 +38,7 @@ impl Measure {
         Measure { hasher }
     }
 
-    /// Takes in the bytes of the next private page. Pages are to come by rising address.
+    /// Adds the bytes of the next private page. Pages must come by ascending address.
     pub fn page(&mut self, page: &[u8; 4096])
         ensures { (layout : Layout) (pages : List (List ℕ)) → HasMeasured self.old layout pages
             → HasMeasured self.new layout (pages ++ page.now ∷ []) }
@@ -46,7 +46,7 @@ impl Measure {
         self.hasher.update(&page[..]);
     }
 
-    /// The SHA-256 digest of the layout and of all pages that were taken in.
+    /// Returns the SHA-256 digest of the layout and of all added pages.
     pub fn finish(self) -> [u8; 32]
         ensures { (layout : Layout) (pages : List (List ℕ)) → HasMeasured self layout pages
             → result ≡ digest_of layout pages }
@@ -56,8 +56,8 @@ impl Measure {
     }
 }
 
-/// The `k`-th of the four words of a digest, for `k` below 4: the little-endian number of its bytes from `8 * k` to
-/// `8 * k + 7`.
+/// Returns the `k`-th of the four words of a digest, for `k` below 4: the little-endian number of its bytes from `8 *
+/// k` to `8 * k + 7`.
 pub fn word(digest: &[u8; 32], k: usize) -> u64
     requires { k < 4 }
     ensures { result ≡ little_number 8 (drop (8 * k) digest.now) }

@@ -1,15 +1,15 @@
-//! What is measured beside the pages.
+//! The measured layout of an enclave.
 
-/// What is measured of an enclave beside the bytes of its private pages. Its base address is not: the same contents at
-/// another place have the same digest.
+/// The part of an enclave's measurement other than the bytes of its private pages. The base address is not measured:
+/// the same contents at another address have the same digest.
 #[derive(Clone, Copy, PartialEq, Eq)]
 pub struct Layout {
-    /// How many pages of text (code) it has.
+    /// The number of pages of text (code).
     pub text_pages: u64,
-    /// How many pages of data follow the text.
+    /// The number of pages of data after the text.
     pub data_pages: u64,
-    /// How many pages it shares with the host.
+    /// The number of pages shared with the host.
     pub shared_count: u64,
-    /// Where it is entered, in bytes from its base.
+    /// The entry point, in bytes from the base.
     pub entry_offset: u64,
 }

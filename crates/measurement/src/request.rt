@@ -1,4 +1,4 @@
-//! What the host asks for when it creates an enclave.
+//! The parameters of an enclave's creation.
 
 ghost use Rattle.std.specs.Prelude.{◌≡◌, ℕ, ◌+◌, ◌*◌, ◌/◌, ◌%◌, ◌^◌, ◌<◌, ◌≤◌, ◌↔◌, IsTrue, true, false};
 ghost use Rattle.pmp_encoding.specs.Views.{in_range};
@@ -8,29 +8,29 @@ ghost use Rattle.measurement.specs.Requests.{parts_of, is_private, is_shared, is
 use crate::Layout;
 use pmp_encoding::{PAGE_SIZE, PageRange, SPACE_SIZE};
 
-/// How many pages of text and data, and how many shared pages, an enclave may have.
+/// Maximum number of pages of text and data, and of shared pages.
 const MOST_PRIVATE: u64 = 1024;
 
 const MOST_SHARED: u64 = 256;
 
-/// What the host asks for when it creates an enclave: where its pages lie and where it is entered.
+/// The parameters of an enclave's creation: the location of its pages, and its entry point.
 #[derive(Clone, Copy, PartialEq, Eq)]
 pub struct Create {
-    /// The address of its first page of text; its data follows the text.
+    /// The address of the first page of text; the data follows the text.
     pub base: u64,
-    /// How many pages of text (code) it has.
+    /// The number of pages of text (code).
     pub text_pages: u64,
-    /// How many pages of data follow the text.
+    /// The number of pages of data after the text.
     pub data_pages: u64,
-    /// The address of the first page that it shares with the host.
+    /// The address of the first page shared with the host.
     pub shared_base: u64,
-    /// How many pages it shares with the host.
+    /// The number of pages shared with the host.
     pub shared_count: u64,
-    /// Where it is entered, in bytes from its base.
+    /// The entry point, in bytes from the base.
     pub entry_offset: u64,
 }
 
-/// Whether this many pages from an address on begin with a page and end in the space.
+/// Returns whether `count` pages from an address on are page-aligned and end in the space.
 fn is_placed(base: u64, count: u64) -> bool
     requires { count ≤ 1024 }
     ensures { IsTrue result
@@ -40,7 +40,7 @@ fn is_placed(base: u64, count: u64) -> bool
 }
 
 impl Create {
-    /// The same request in the form that an enclave keeps: without shared pages the shared base is 0.
+    /// Returns the request in the form that is stored for an enclave: without shared pages the shared base is 0.
     pub fn normalized(self) -> Create
         ensures { result ≡ parts_of self }
     {
@@ -51,7 +51,7 @@ impl Create {
         parts
     }
 
-    /// Whether there is some text, and not too many pages.
+    /// Returns whether there is some text, and there are not too many pages.
     pub fn has_counts(&self) -> bool
         ensures { IsTrue result ↔ HasCounts self.now }
     {
@@ -61,7 +61,7 @@ impl Create {
             && self.shared_count <= MOST_SHARED
     }
 
-    /// Whether both ranges begin with a page and end in the space.
+    /// Returns whether both ranges are page-aligned and end in the space.
     pub fn has_places(&self) -> bool
         requires { HasCounts self.now }
         ensures { IsTrue result ↔ HasPlaces self.now }
@@ -70,7 +70,7 @@ impl Create {
             && is_placed(self.shared_base, self.shared_count)
     }
 
-    /// Whether the entry is even, and in the text.
+    /// Returns whether the entry point is even and in the text.
     pub fn has_entry(&self) -> bool
         requires { HasCounts self.now }
         ensures { IsTrue result ↔ HasEntry self.now }
@@ -78,7 +78,7 @@ impl Create {
         self.entry_offset % 2 == 0 && self.entry_offset < self.text_pages * PAGE_SIZE
     }
 
-    /// What is measured of it beside its pages.
+    /// Returns the measured layout.
     pub fn layout(&self) -> Layout
         ensures { result ≡ layout_of self.now }
     {
@@ -90,7 +90,7 @@ impl Create {
         }
     }
 
-    /// Its text and data.
+    /// Returns the pages of text and data.
     pub fn private_pages(&self) -> PageRange
         requires { HasCounts self.now }
         ensures value { result ≡ record {
@@ -106,7 +106,7 @@ impl Create {
         }
     }
 
-    /// What it shares with the host.
+    /// Returns the pages shared with the host.
     pub fn shared_pages(&self) -> PageRange
         requires { HasCounts self.now }
         ensures value { result ≡ record {
@@ -122,7 +122,7 @@ impl Create {
         }
     }
 
-    /// Whether no page is both private and shared.
+    /// Returns whether no page is both private and shared.
     pub fn is_apart(&self) -> bool
         requires { HasCounts self.now }
         ensures { IsTrue result
@@ -131,7 +131,7 @@ impl Create {
         self.private_pages().is_apart_from(self.shared_pages())
     }
 
-    /// Whether it has no page in common with these.
+    /// Returns whether it has no page in common with the given pages.
     pub fn is_clear_of(&self, pages: PageRange) -> bool
         requires counts { HasCounts self.now }
         requires fits { pages.first + pages.count < 2 ^ 64 }
@@ -142,7 +142,7 @@ impl Create {
         self.private_pages().is_apart_from(pages) && self.shared_pages().is_apart_from(pages)
     }
 
-    /// Whether it has no page in common with another enclave.
+    /// Returns whether it has no page in common with another enclave.
     pub fn is_apart_from(&self, other: &Create) -> bool
         requires counts { HasCounts self.now }
         requires other_counts { HasCounts other.now }

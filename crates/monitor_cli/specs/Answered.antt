@@ -1,19 +1,19 @@
--- What a command answers: the program's status, or its trouble.
+-- The result of a command: the exit status, or its failure.
 use Rattle.std.specs.Prelude.{ℕ, Bool, true, false, Result, Ok, Err}
 use Rattle.program_files.specs.declared.trouble.Trouble.{Trouble}
 use Rattle.monitor_cli.specs.declared.answered.Answered.{Answered}
 
--- the status of what a command answers
+-- the status in the result of a command
 abbrev pub status_in : Result Answered Trouble → Result ℕ Trouble
 status_in (Ok answered) = Ok answered.status
 status_in (Err trouble) = Err trouble
 
--- the status of an answer: 0 for a yes, and 1 for a no
+-- the status of a decision: 0 for a yes, and 1 for a no
 abbrev pub answer_status : Bool → ℕ
 answer_status true = 0
 answer_status false = 1
 
--- that of what answers yes or no
+-- the result of a command that decides yes or no
 abbrev pub judged : Result Bool Trouble → Result ℕ Trouble
 judged (Ok answer) = Ok (answer_status answer)
 judged (Err trouble) = Err trouble

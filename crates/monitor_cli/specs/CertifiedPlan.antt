@@ -26,8 +26,8 @@ use Rattle.program_files.specs.declared.trouble.Trouble.{Trouble}
 use Rattle.program_files.specs.declared.trouble.Trouble.TheVariants.{TooFar, NeedsEntries}
 use Rattle.program_files.specs.declared.trouble.Trouble.TheVariants.{CannotWrite, Memory}
 
--- a sink whose bytes come into a place, over a call: whether the place is apart from it, and
--- the bytes that were there before the call and are there after it, where they are known
+-- a sink whose bytes are moved to a place, before and after a call: whether the place is separate
+-- from it, and the bytes in the place before and after the call, if they are known
 pub record Placing (C : Type 0) : Type 0 where
   pub sink : Writing C
   pub is_apart : Bool
@@ -44,34 +44,34 @@ placing contents failures stalls stands is_apart old new = record {
   stands = stands new;
 }
 
--- nothing was written, and what was in the place is there
+-- nothing was written, and the place is unchanged
 abbrev pub WritesNothing : {C : Type 0} → Placing C → Type 0
 WritesNothing cert = IsUnwritten cert.sink × (cert.stands ≡ cert.stood)
 
--- what was in a place that is apart is still there
+-- a separate place is unchanged
 abbrev pub KeepsOldFile : {C : Type 0} → Placing C → Type 0
 KeepsOldFile cert = cert.is_apart ≡ true → cert.stands ≡ cert.stood
 
--- the bytes are a right certificate of the entries, for a hart of that limit
+-- the bytes are a right certificate of the entries, for a hart with this limit
 pub record IsCertificateOf (view : View) (limit : Limit) (entries : List Entry) (bytes : List ℕ) :
     Type 0 where
   pub tree : BoundTree
   pub spells : Spells bytes (version_for limit) entries tree
   pub right : IsRight view bytes (length entries)
 
--- bytes were written and put in their place where a file for them is named, and otherwise nothing
--- was
+-- if a file for them is named, bytes were written and put in their place; otherwise nothing was
+-- written
 abbrev pub IsPut : {C : Type 0} → List ℕ → Option (Bor (List ℕ)) → Placing C → Type 0
 IsPut bytes None cert = WritesNothing cert
 IsPut bytes (Some file) cert = TakesAll bytes cert.sink × (cert.stands ≡ cert.sink.after)
 
--- so was a certificate of the entries
+-- a certificate of the entries was put in its place
 abbrev pub IsCertified : {C : Type 0} → View → Limit → List Entry → Option (Bor (List ℕ))
     → Placing C → Type 0
 IsCertified view limit entries file cert = (bytes : List ℕ)
     × IsCertificateOf view limit entries bytes × IsPut bytes file cert
 
--- bytes were not written whole, or they were not put in their place: what was there is there
+-- bytes were not written whole, or they were not put in their place, which is unchanged
 pub data CertificateNotWritten {C : Type 0} (bytes : List ℕ) (cert : Placing C) : Type 0 where
   not_written : Breaks bytes cert.sink → KeepsOldFile cert → CertificateNotWritten bytes cert
   not_moved :
@@ -80,30 +80,31 @@ pub data CertificateNotWritten {C : Type 0} (bytes : List ℕ) (cert : Placing C
       → cert.sink.stalled ≡ cert.sink.stalls → KeepsOldFile cert
       → CertificateNotWritten bytes cert
 
--- bytes could not be put in the place of that name
+-- bytes could not be put in the place with this name
 abbrev pub IsNotPut : {C : Type 0} → List ℕ → Option (Bor (List ℕ)) → Placing C → Trouble → Type 0
 IsNotPut bytes file cert trouble = (name : Bor (List ℕ)) × (file ≡ Some name)
     × (trouble ≡ CannotWrite name) × CertificateNotWritten bytes cert
 
--- as many entries as that are within the bound, or beyond it
+-- the number of entries is within the bound
 abbrev pub IsWithin : Option ℕ → ℕ → Type 0
 IsWithin None n = Unit {0}
 IsWithin (Some most) n = n ≤ most
 
--- so many entries are more than may be
+-- the number of entries exceeds the bound
 abbrev pub IsBeyond : Option ℕ → ℕ → Type 0
 IsBeyond None n = ⊥
 IsBeyond (Some most) n = most < n
 
--- the plan of a map: of the lists of fewest entries the one that is chosen, in its order, as many
--- as may be
+-- the plan of a map: the chosen one among the minimal lists of entries, in its order, within the
+-- bound
 pub record IsPlanned (view : View) (most : Option ℕ) (entries : List Entry) : Type 0 where
   pub fewest : IsFewest view entries
   pub chosen : AreChosen (tree_of view) entries
   pub order : AreInOrder entries
   pub within : IsWithin most (length entries)
 
--- the bank has the entries that are planned for a view, and the hart's address registers reach them
+-- the bank contains the entries that are planned for a view, and the hart's address registers reach
+-- them
 pub record IsLoaded (view : View) (xlen : Xlen) (limit : Limit) (bank : Bank) : Type 0 where
   pub entries : List Entry
   pub planned : IsPlanned view (Some (limit_number limit)) entries
@@ -111,7 +112,7 @@ pub record IsLoaded (view : View) (xlen : Xlen) (limit : Limit) (bank : Bank) : 
   pub list : HasList bank entries
   pub registers : IsBankOf bank limit entries
 
--- the plan of a map has more entries than may be
+-- the plan of a map has more entries than the bound
 pub record NeedsMore (view : View) (most : Option ℕ) (trouble : Trouble) : Type 0 where
   pub entries : List Entry
   pub fewest : IsFewest view entries
@@ -123,8 +124,8 @@ abbrev pub HasPageBeyond : Xlen → View → Type 0
 HasPageBeyond xlen view = (page : ℕ) × (space_end xlen ≤ page * 4096) × (page < 2 ^ 44)
     × (view page ≢ NoAccess)
 
--- the plan of the map of that name has an entry that the hart's address registers do not reach, and
--- the map such a page
+-- the plan of the map with this name has an entry that the hart's address registers do not reach,
+-- and the map has such a page
 pub record IsTooFar (view : View) (xlen : Xlen) (most : Option ℕ) (map : Bor (List ℕ))
     (trouble : Trouble) : Type 0 where
   pub entries : List Entry
@@ -133,7 +134,7 @@ pub record IsTooFar (view : View) (xlen : Xlen) (most : Option ℕ) (map : Bor (
   pub page : HasPageBeyond xlen view
   pub told : trouble ≡ TooFar map
 
--- why there is no plan: memory, too many entries, or one that is too far
+-- the reason why there is no plan: a failed allocation, too many entries, or one out of reach
 abbrev pub IsUnplanned : View → Xlen → Option ℕ → Bor (List ℕ) → Trouble → Type 0
 IsUnplanned view xlen most map trouble = (trouble ≡ Memory)
     ⊎ (NeedsMore view most trouble ⊎ IsTooFar view xlen most map trouble)

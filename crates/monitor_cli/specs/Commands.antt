@@ -1,5 +1,5 @@
--- How the commands end that print what they found of their inputs: each has a relation for what it
--- read and decided, and one for why it has no answer.
+-- The ends of commands that print a result about their inputs: each has a relation for its inputs
+-- and its decision, and one for its failures.
 use Rattle.std.specs.Prelude.{◌≡◌, ◌≢◌, ◌⊎◌, ℕ, ◌^◌, Bool, true, false, List, None, Option}
 use Rattle.std.specs.Prelude.{Some, Result, Ok, Err}
 use Rattle.std.specs.Borrow.{Bor}
@@ -37,9 +37,9 @@ use Rattle.monitor_cli.specs.CertifiedPlan.{IsPlanned, IsUnplanned}
 use Rattle.monitor_cli.specs.Plan.{HasNoPlan}
 use Rattle.monitor_cli.specs.Verdicts.{IsVerdict}
 
--- how a command ends: a text of this kind is printed, with its answer; or the device fails, and a
--- beginning of one is; or there is a trouble, want of memory or one of this kind, and nothing is
--- printed
+-- the end of a command: it prints a text of this kind and returns its decision; or the device
+-- fails, after a beginning of such a text; or the command fails, because of an allocation or for a
+-- reason of this kind, and prints nothing
 abbrev pub Ends : {W A : Type 0} → (List ℕ → A → Type 0) → (Trouble → Type 0) → Writing W
     → Result A Trouble → Type 0
 Ends IsText IsTrouble out (Ok answer) = (text : List ℕ) × IsText text answer × TakesAll text out
@@ -47,34 +47,33 @@ Ends {A = A} IsText IsTrouble out (Err trouble) =
     ((trouble ≡ Output) × ((text : List ℕ) × (answer : A) × IsText text answer × Breaks text out))
     ⊎ (((trouble ≡ Memory) ⊎ IsTrouble trouble) × IsUnwritten out)
 
--- a listing of registers was read, and a line of it is not understood
+-- a listing of registers was read, and a line of it is invalid
 abbrev pub HasUnknown : {R : Type 0} → Bor (List ℕ) → Xlen → Reading R → Trouble → Type 0
 HasUnknown file xlen source trouble = (listing : List ℕ) × (n : ℕ)
     × HasBytes (2 ^ 20) source listing
     × IsFirstUnknown xlen listing n × (trouble ≡ NotUnderstood file n)
 
--- `check`: the map is read, then the certificate, and the line and the status are those of the
+-- `check` reads the map, then the certificate, and prints the line and returns the status of the
 -- verdict
 abbrev pub IsChecked : {R : Type 0} → Reading R → Reading R → List ℕ → ℕ → Type 0
 IsChecked first second text status = (runs : List Run) × (bytes : List ℕ) × HasMap first runs
     × HasBytes (2 ^ 26) second bytes × IsVerdict (view_of_runs runs) bytes text status
 
--- why there is no verdict
+-- the reason why there is no verdict
 abbrev pub IsUnchecked : {R : Type 0} → Bor (List ℕ) → Bor (List ℕ) → Reading R → Reading R
     → Trouble → Type 0
 IsUnchecked map cert first second trouble = (HasNoMap map first trouble × IsUnread second)
     ⊎ HasNoBytes (2 ^ 26) cert second trouble
 
--- `audit`: the map is read, then the listing of registers, and the answer is whether they mean the
--- map for a mode. The text names how many entries are enough, which the hart's address registers
--- reach
+-- `audit` reads the map, then the listing of registers, and returns whether they mean the map for a
+-- mode. The text contains the minimum number of entries, which the hart's address registers reach
 abbrev pub IsAudited : {R : Type 0} → Options → Reading R → Reading R → List ℕ → Bool → Type 0
 IsAudited options first second text means = (runs : List Run) × (listing : List ℕ)
     × (entries : List Entry) × HasMap first runs × HasBytes (2 ^ 20) second listing
     × IsFewest (view_of_runs runs) entries × AreReached options.xlen entries
     × IsAudit options.mode (view_of_runs runs) options.xlen listing means
 
--- why there is no audit
+-- the reason why there is no audit
 abbrev pub IsUnaudited : {R : Type 0} → Bor (List ℕ) → Bor (List ℕ) → Options → Reading R
     → Reading R → Trouble → Type 0
 IsUnaudited map registers options first second trouble =
@@ -84,15 +83,15 @@ IsUnaudited map registers options first second trouble =
     × IsUnplanned (view_of_runs runs) options.xlen None map trouble)
     ⊎ HasUnknown registers options.xlen second trouble))
 
--- the table of a map in a format: as JSON it is the object of its stretches, and otherwise it is
--- for people
+-- the table of a map in a format: for JSON it is the object of its stretches; other formats are for
+-- people and have no contract
 abbrev pub IsShown : TableFormat → View → List Entry → Limit → List ℕ → Type 0
 IsShown tables.Text view entries limit text = Unit {0}
 IsShown tables.Svg view entries limit text = Unit {0}
 IsShown tables.Json view entries limit text = IsJsonTable view entries limit text
 
--- `show`: the map is read, and the text is the table of its stretches, where the hart's address
--- registers reach its entries
+-- `show` reads the map and prints the table of its stretches, if the hart's address registers reach
+-- its entries
 abbrev pub IsMapShown : {R : Type 0} → Limit → Options → Reading R → List ℕ → Bool → Type 0
 IsMapShown limit options first text meant = (bytes : List ℕ) × (runs : List Run)
     × (entries : List Entry) × HasBytes (2 ^ 20) first bytes × Makes bytes runs
@@ -100,17 +99,16 @@ IsMapShown limit options first text meant = (bytes : List ℕ) × (runs : List R
     × IsShown options.table (view_of_runs runs) entries limit text
     × (meant ≡ true)
 
--- why there is no table of a map
+-- the reason why there is no table of a map
 abbrev pub IsMapUnshown : {R : Type 0} → Bor (List ℕ) → Options → Reading R → Trouble → Type 0
 IsMapUnshown map options first trouble = HasNoPlan map options.xlen options.at_most first trouble
 
--- `show --registers`: the listing of registers is read, and the answer is whether they mean
--- something
+-- `show --registers` reads the listing of registers and returns whether they mean something
 abbrev pub AreRegistersShown : {R : Type 0} → Options → Reading R → List ℕ → Bool → Type 0
 AreRegistersShown options first text meant = (listing : List ℕ) × HasBytes (2 ^ 20) first listing
     × IsRegisterTable options.xlen listing meant
 
--- a listing could not be had, or has a line that is not understood
+-- a listing could not be read, or has an invalid line
 abbrev pub HasNoListing : {R : Type 0} → Bor (List ℕ) → Xlen → Reading R → Trouble → Type 0
 HasNoListing file xlen first trouble = HasNoBytes (2 ^ 20) file first trouble
     ⊎ HasUnknown file xlen first trouble
@@ -123,41 +121,40 @@ ShowsAs true file limit options first out done =
 ShowsAs false file limit options first out done =
     Ends (IsMapShown limit options first) (IsMapUnshown file options first) out done
 
--- `map` of a device tree: the text is the map of its board. What machine mode may do is not asked
--- of it
+-- `map` of a device tree prints the map of its board. The mode is not machine mode
 abbrev pub IsTreeMapped : Mode → List ℕ → List ℕ → ℕ → Type 0
 IsTreeMapped mode bytes text status = (mode ≢ Machine) × IsMapOfTree bytes text × (status ≡ 0)
 
--- `map` of a listing of registers: the text is the map that they mean for a mode, or why there is
--- none. A boot log does not say what machine mode may do
+-- `map` of a listing of registers prints the map that they mean for a mode, or the reason why there
+-- is no such map. A boot log does not describe machine mode
 abbrev pub AreRegistersMapped : Options → List ℕ → List ℕ → ℕ → Type 0
 AreRegistersMapped options bytes text status =
     (options.mode ≡ Machine → is_boot_log bytes ≡ false) × (is_map : Bool)
     × IsMapFile options.mode options.xlen bytes text is_map × (status ≡ answer_status is_map)
 
--- `map`: a file is read, which is a device tree where its bytes begin as one does, and a listing of
--- registers otherwise
+-- `map` reads a file, which is a device tree if its bytes begin with the magic number, and a
+-- listing of registers otherwise
 abbrev pub IsMapped : {R : Type 0} → Options → Reading R → List ℕ → ℕ → Type 0
 IsMapped options first text status = (bytes : List ℕ) × HasBytes (2 ^ 20) first bytes
     × (((is_tree bytes ≡ true) × IsTreeMapped options.mode bytes text status)
     ⊎ ((is_tree bytes ≡ false) × AreRegistersMapped options bytes text status))
 
--- why there is no text of a board: a fault of its tree, which is told
+-- the reason why a board has no text: a fault of its tree, with its message
 abbrev pub IsOfBoard : Bor (List ℕ) → (BoardTextFault → Type 0) → Trouble → Type 0
 IsOfBoard file IsNone trouble = (fault : BoardTextFault) × (said : List ℕ) × IsNone fault
     × (trouble ≡ NoBoardText file said)
 
--- why there is no map of a device tree
+-- the reason why a device tree has no map
 abbrev pub IsTreeUnmapped : Bor (List ℕ) → Mode → List ℕ → Trouble → Type 0
 IsTreeUnmapped file mode bytes trouble = ((mode ≡ Machine) × (trouble ≡ NoRegisters file))
     ⊎ IsOfBoard file (IsNoMap bytes) trouble
 
--- machine mode is asked of a boot log
+-- the mode is machine mode and the file is a boot log
 abbrev pub IsLogUnmapped : Bor (List ℕ) → Mode → List ℕ → Trouble → Type 0
 IsLogUnmapped file mode bytes trouble = (mode ≡ Machine) × (is_boot_log bytes ≡ true)
     × (said : List ℕ) × (trouble ≡ NoBoardText file said)
 
--- why there is no map of a file
+-- the reason why a file has no map
 abbrev pub IsUnmapped : {R : Type 0} → Bor (List ℕ) → Options → Reading R → Trouble → Type 0
 IsUnmapped file options first trouble = HasNoListing file options.xlen first trouble
     ⊎ ((bytes : List ℕ) × HasBytes (2 ^ 20) first bytes
@@ -167,13 +164,13 @@ IsUnmapped file options first trouble = HasNoListing file options.xlen first tro
     × AreTooFine options.mode leaves
     × (trouble ≡ TooManyRanges file)))))
 
--- `platform`: the device tree of a board is read, and the text is its platform, with the monitor
--- where it is given
+-- `platform` reads the device tree of a board and prints its platform, with the given range of the
+-- monitor, if any
 abbrev pub IsPlatformTold : {R : Type 0} → Option (ℕ × ℕ) → Reading R → List ℕ → ℕ → Type 0
 IsPlatformTold monitor first text status = (bytes : List ℕ) × HasBytes (2 ^ 20) first bytes
     × IsPlatformOfTree monitor bytes text × (status ≡ 0)
 
--- why there is no platform of a board
+-- the reason why a board has no platform
 abbrev pub IsPlatformUntold : {R : Type 0} → Bor (List ℕ) → Option (ℕ × ℕ) → Reading R → Trouble
     → Type 0
 IsPlatformUntold board monitor first trouble = HasNoBytes (2 ^ 20) board first trouble

@@ -1,4 +1,4 @@
--- What `judge` comes to on the files and streams that are lent for it.
+-- The effects of `judge` on the files and streams that are lent to it.
 use Rattle.std.specs.Prelude.{◌≡◌, ℕ, ◌^◌, Bool, true, false, List, Option, Some}
 use Rattle.std.specs.Prelude.{Result, Ok, Err}
 use Rattle.std.specs.Borrow.{Bor}
@@ -42,8 +42,8 @@ pub data JudgesTrace {R W : Type 0} (does : Meaning (Unit {0})) (trace : Bor (Li
       → CountsWrites (Err fault) out.failures out.failed out.stalls out.stalled
       → JudgesTrace does trace second out (Err (run_trouble trace fault))
 
--- a trace is judged so and its answers are compared with those that its comments say: where one
--- differs, the first that does is reported after the answers, and the status is 1
+-- a trace is judged and its answers are compared with those expected in its comments: the first
+-- mismatch is reported after the answers, with the status 1
 pub data JudgesExpecting {R W : Type 0} (does : Meaning (Unit {0})) (trace : Bor (List ℕ))
     (second : Reading R) (out : Writing W) : Result ℕ Trouble → Type 0 where
   compared :
@@ -65,8 +65,8 @@ pub data JudgesExpecting {R W : Type 0} (does : Meaning (Unit {0})) (trace : Bor
       → CountsWrites (Err fault) out.failures out.failed out.stalls out.stalled
       → JudgesExpecting does trace second out (Err (run_trouble trace fault))
 
--- a trace is judged; with `--explain` a comment after each answer says which entry decided it, and
--- with `--expect` the answers are compared
+-- a trace is judged; with `--explain` a comment after each answer names the entry that decided it,
+-- and with `--expect` the answers are compared
 abbrev pub JudgesTraceAs : {R W : Type 0} → Answers → Outcomes → Bor (List ℕ) → Reading R
     → Writing W → Result ℕ Trouble → Type 0
 JudgesTraceAs answers.Plain outcomes trace second out done =
@@ -76,8 +76,8 @@ JudgesTraceAs answers.Explained outcomes trace second out done =
 JudgesTraceAs answers.Compared outcomes trace second out done =
     JudgesExpecting (answered_by outcomes) trace second out done
 
--- `judge`: the map is read and its entries are loaded, and then the trace is judged by them; or
--- there is no plan of it that fits the hart
+-- `judge` reads the map and loads its entries, and then judges the trace by them; or no plan of the
+-- map fits the hart
 pub data JudgesByMap {R W : Type 0} (map trace : Bor (List ℕ)) (limit : Limit) (options : Options)
     (first second : Reading R) (out : Writing W) : Result ℕ Trouble → Type 0 where
   judged :
@@ -89,8 +89,8 @@ pub data JudgesByMap {R W : Type 0} (map trace : Bor (List ℕ)) (limit : Limit)
       → HasNoPlan map options.xlen (Some (limit_number limit)) first trouble → IsUnread second
       → IsUnwritten out → JudgesByMap map trace limit options first second out (Err trouble)
 
--- `judge --registers`: the listing of registers is read, and then the trace is judged by them line
--- by line; where they judge nothing the trace is not read, and why is printed
+-- `judge --registers` reads the listing of registers, and then judges the trace by them line by
+-- line; if they judge nothing, the trace is not read, and the reason is printed
 pub data JudgesByRegisters {R W : Type 0} (listing trace : Bor (List ℕ)) (options : Options)
     (first second : Reading R) (out : Writing W) : Result ℕ Trouble → Type 0 where
   ruled :

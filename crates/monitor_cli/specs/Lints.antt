@@ -1,4 +1,4 @@
--- What `lint` finds of a file: whether it is what it should be.
+-- The results of `lint`: whether a file is valid.
 use Rattle.std.specs.Prelude.{◌≡◌, ◌⊎◌, ℕ, ◌^◌, ◌==◌, Bool, true, false, List, Option, Some, None}
 use Rattle.std.specs.Prelude.{Result, Ok, Err, codes}
 use Rattle.std.specs.List.{ends_with}
@@ -18,42 +18,42 @@ use Rattle.program_files.specs.declared.trouble.Trouble.TheVariants.{Memory, Out
 use Rattle.program_files.specs.Reading.{HasBytes, HasNoBytes, IsUnread, Reading}
 use Rattle.monitor_cli.specs.Platforms.{HasNoPlatform, HasPlatform}
 
--- a file whose name ends in `.toml` should be a platform, and any other one a map
+-- a file whose name ends in `.toml` should be a platform, any other one a map
 abbrev pub names_platform : List ℕ → Bool
 names_platform name = ends_with (λ a b. a == b) name (codes ".toml")
 
--- whether bytes are a platform, where the first says that they should be one, and otherwise a map
+-- the verdict on bytes as a platform, if the first argument is true, and otherwise as a map
 abbrev pub IsFound : Bool → List ℕ → Bool → Type 0
 IsFound true bytes is = IsPlatformVerdict bytes is
 IsFound false bytes is = IsVerdictOfLines bytes is
 
--- whether they are a listing of registers
+-- the verdict on bytes as a listing of registers
 abbrev pub IsListingFound : Xlen → List ℕ → Bool → Type 0
 IsListingFound xlen bytes true = (leaves : Listing) × (listed xlen bytes ≡ Some leaves)
 IsListingFound xlen bytes false = (n : ℕ) × IsFirstUnknown xlen bytes n
 
--- how many harts a trace is for: those of a platform where one is named, otherwise four
+-- the number of harts for a trace: that of a platform if one is named, otherwise four
 abbrev pub HasHarts : {R : Type 0} → Option (Bor (List ℕ)) → Reading R → ℕ → Type 0
 HasHarts None source harts = (harts ≡ 4) × IsUnread source
 HasHarts (Some file) source harts = (platform : PlatformLayout) × HasPlatform source platform
     × (harts ≡ platform.harts)
 
--- why that is not known
+-- the reason why that is unknown
 abbrev pub HasNoHarts : {R : Type 0} → Option (Bor (List ℕ)) → Reading R → Trouble → Type 0
 HasNoHarts None source trouble = ⊥
 HasNoHarts (Some file) source trouble = HasNoPlatform file source trouble
 
--- a trouble that is none of the input: memory was refused, or standard output failed
+-- a failure that is not about the input: of an allocation or of standard output
 abbrev pub IsOfDevices : Trouble → Type 0
 IsOfDevices trouble = (trouble ≡ Output) ⊎ (trouble ≡ Memory)
 
--- a file is found to be what it should be or not; or there is a trouble: memory, standard output,
--- or one of this kind
+-- a file is found to be valid or not; or there is a failure: of an allocation, of standard output,
+-- or of this kind
 abbrev pub Finds : (Bool → Type 0) → (Trouble → Type 0) → Result Bool Trouble → Type 0
 Finds IsIt IsTrouble (Ok is) = IsIt is
 Finds IsIt IsTrouble (Err trouble) = IsOfDevices trouble ⊎ IsTrouble trouble
 
--- `lint`, by what the file should be: it is read, for a trace after the platform that is named
+-- `lint` for each kind of file: it is read, and for a trace the named platform is read first
 abbrev pub Lints : {R : Type 0} → LintKind → Xlen → Bor (List ℕ) → Option (Bor (List ℕ)) → Reading R
     → Reading R → Result Bool Trouble → Type 0
 Lints kinds.ByName xlen file platform first second done =

@@ -1,4 +1,4 @@
--- What `plan` comes to on the files and streams that are lent for it.
+-- The effects of `plan` on the files and streams that are lent to it.
 use Rattle.std.specs.Prelude.{◌≡◌, ◌⊎◌, ℕ, ◌-◌, min, List, Option, Some, None, Result, Ok, Err}
 use Rattle.std.specs.Prelude.{option_map}
 use Rattle.std.specs.Borrow.{Bor}
@@ -23,15 +23,15 @@ use Rattle.command_line.specs.declared.options.Options.{Options}
 use Rattle.monitor_cli.specs.CertifiedPlan.{IsCertificateOf, IsCertified, IsNotPut, IsPlanned}
 use Rattle.monitor_cli.specs.CertifiedPlan.{IsUnplanned, Placing, WritesNothing}
 
--- how many entries a plan may have, where there is a bound: what was asked for, and for C and
--- assembly as many as the hart has from the first on
+-- the maximum number of entries of a plan, if there is one: the requested one, and for C and
+-- assembly the number of the hart's entries from the first on
 abbrev pub most_entries : Limit → ℕ → Option ℕ → Format → Option ℕ
 most_entries limit first at_most formats.Text = at_most
 most_entries limit first at_most formats.Json = at_most
 most_entries limit first None format = Some (limit_number limit - first)
 most_entries limit first (Some n) format = Some (min n (limit_number limit - first))
 
--- the text of a plan as the options say, of the map of that name
+-- the text of a plan according to the options, for the map with this name
 abbrev pub IsPrintedAs : Format → Options → Limit → List ℕ → List Entry → List ℕ → Type 0
 IsPrintedAs formats.Text options limit map entries text =
     IsPlanText options.xlen limit options.first entries text
@@ -42,17 +42,17 @@ IsPrintedAs formats.Asm options limit map entries text =
 IsPrintedAs formats.Json options limit map entries text =
     IsJsonText map options.xlen limit options.first entries text
 
--- what is printed of a plan, by its options
+-- the output of a plan, according to its options
 abbrev pub IsPrinted : Options → Limit → List ℕ → List Entry → List ℕ → Type 0
 IsPrinted options limit map entries text =
     IsPrintedAs options.format options limit map entries text
 
--- how many entries it may have
+-- the maximum number of its entries
 abbrev pub most_of : Limit → Options → Option ℕ
 most_of limit options = most_entries limit options.first options.at_most options.format
 
--- what `plan` is made of: the map was read, its certificate is written where one is asked for, and
--- the text is that of the plan
+-- the results of `plan`: the map was read, its certificate was written if requested, and the text
+-- is that of the plan
 pub record IsPlanMade {R C : Type 0} (map : Bor (List ℕ)) (file : Option (Bor (List ℕ)))
     (limit : Limit) (options : Options) (source : Reading R) (cert : Placing C) (text : List ℕ) :
     Type 0 where
@@ -64,7 +64,7 @@ pub record IsPlanMade {R C : Type 0} (map : Bor (List ℕ)) (file : Option (Bor 
   pub certified : IsCertified (view_of_runs runs) limit entries file cert
   pub printed : IsPrinted options limit map.now entries text
 
--- why there is no plan of a file: it has no map, or this has no plan
+-- the reason why a file has no plan: it has no map, or the map has no plan
 abbrev pub HasNoPlan : {R : Type 0} → Bor (List ℕ) → Xlen → Option ℕ → Reading R → Trouble → Type 0
 HasNoPlan map xlen most source trouble = HasNoMap map source trouble
     ⊎ ((runs : List Run) × HasMap source runs
@@ -81,8 +81,8 @@ pub record BreaksCertificate {R C : Type 0} (file : Option (Bor (List ℕ))) (li
   pub certificate : IsCertificateOf (view_of_runs runs) limit entries bytes
   pub broken : IsNotPut bytes file cert trouble
 
--- `plan`: the text is printed, or a beginning of it where the device fails; or there is no plan,
--- and nothing is written; or the certificate is not put in its place, and nothing is printed
+-- `plan` prints the text, or a beginning of it if the device fails; or there is no plan, and
+-- nothing is written; or the certificate is not put in its place, and nothing is printed
 abbrev pub Plans : {R C W : Type 0} → Bor (List ℕ) → Option (Bor (List ℕ)) → Limit → Options
     → Reading R → Placing C → Writing W → Result ℕ Trouble → Type 0
 Plans map file limit options source cert out (Ok status) = (text : List ℕ) × (status ≡ 0)

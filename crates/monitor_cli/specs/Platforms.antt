@@ -18,7 +18,7 @@ pub record HasPlatform {R : Type 0} (source : Reading R) (platform : PlatformLay
   pub read : HasBytes (2 ^ 20) source bytes
   pub is_platform : IsPlatformFile bytes platform
 
--- why the platform of a file could not be had
+-- the reason why the platform of a file was not returned
 pub data HasNoPlatform {R : Type 0} (file : Bor (List ℕ)) (source : Reading R) : Trouble
     → Type 0 where
   no_bytes : (trouble : Trouble) → HasNoBytes (2 ^ 20) file source trouble
@@ -28,12 +28,12 @@ pub data HasNoPlatform {R : Type 0} (file : Bor (List ℕ)) (source : Reading R)
       → HasNoPlatform file source (NotAPlatform file)
   memory : (bytes : List ℕ) → HasBytes (2 ^ 20) source bytes → HasNoPlatform file source Memory
 
--- a fault of a platform's text
+-- the failure for a fault of a platform's text
 abbrev pub text_trouble : Bor (List ℕ) → TextFault → Trouble
 text_trouble file texts.NotAPlatform = NotAPlatform file
 text_trouble file texts.Memory = Memory
 
--- a refusal to boot
+-- the failure for a refusal to boot
 abbrev pub boot_trouble : BootFault → Trouble
 boot_trouble (boots.NeedsMoreEntries n) = NeedsEntries n
 boot_trouble boots.Memory = Memory

@@ -1,4 +1,4 @@
--- What a task comes to, and the status of the program.
+-- The effects of a task, and the exit status.
 use Rattle.std.specs.Prelude.{◌≡◌, ℕ, Bool, Result}
 use Rattle.text_lines.specs.Writings.{Writing}
 use Rattle.command_line.specs.declared.options.Options.{Options}
@@ -19,11 +19,12 @@ use Rattle.monitor_cli.specs.Measure.{IsDigested, IsUndigested}
 use Rattle.monitor_cli.specs.Plan.{Plans}
 use Rattle.monitor_cli.specs.Runs.{Runs}
 
--- the status of a command that answers yes or no
+-- the status of a command that decides yes or no
 abbrev pub Judging : (Result Bool Trouble → Type 0) → Result ℕ Trouble → Type 0
 Judging Finds done = (found : Result Bool Trouble) × Finds found × (done ≡ judged found)
 
--- what a task comes to with its options: what its command does not use stays as it was
+-- the effects of a task with its options: files and streams that its command does not use are
+-- unchanged
 abbrev pub Comes : {R C W : Type 0} → Task → Options → Reading R → Reading R → Placing C
     → Writing W → Result ℕ Trouble → Type 0
 Comes (tasks.Run platform trace measure) options first second cert out done =
@@ -52,9 +53,9 @@ Comes (tasks.Platform board monitor) options first second cert out done =
     Ends (IsPlatformTold monitor first) (IsPlatformUntold board monitor first) out done
     × IsUnread second × WritesNothing cert
 
--- a task was done or came to trouble. The status is 0 where it was done, 1 where the checker,
--- `audit` or `lint` refused, or registers have no table, mean no map or judge nothing, 2 for bad
--- input, 3 for a device, 4 for memory, and it does not depend on standard error
+-- a task finished or failed. The status is 0 if it finished, 1 if the checker, `audit` or `lint`
+-- refused, or if registers have no table, mean no map or judge nothing, 2 for bad input, 3 for a
+-- device, 4 for memory, and it does not depend on standard error
 pub record Performs {R C W : Type 0} (request : Request) (first second : Reading R)
     (cert : Placing C) (out : Writing W) (status : ℕ) : Type 0 where
   pub done : Result ℕ Trouble

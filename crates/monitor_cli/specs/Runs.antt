@@ -1,4 +1,4 @@
--- What `run` comes to, on the files and streams that are lent for it.
+-- The effects of `run` on the files and streams that are lent to it.
 use Rattle.std.specs.Prelude.{◌≡◌, ℕ, ◌≤◌, Bool, true, false, List, Option, Some, Result, Ok}
 use Rattle.std.specs.Prelude.{Err}
 use Rattle.std.specs.Borrow.{Bor}
@@ -28,15 +28,14 @@ use Rattle.monitor_cli.specs.Expected.{IsTold}
 use Rattle.monitor_cli.specs.Stops.{Stops}
 use Rattle.monitor_cli.specs.Measurements.{AreMeasures}
 
--- the measurements of a machine's live enclaves were written where they are asked for, and
--- otherwise nothing more
+-- the measurements of a machine's live enclaves were written if they are requested, and otherwise
+-- nothing
 abbrev pub IsMeasured : Bool → Machine → Option (List ℕ) → Option (List ℕ) → Type 0
 IsMeasured false machine before after = after ≡ before
 IsMeasured true machine before after = (text : List ℕ) × AreMeasures (kept_of machine).table 64 text
     × Appends before after text
 
--- a trace happens to a machine line by line, to its end or until it stops, and the measurements
--- come last
+-- a machine runs a trace line by line, to its end or until it stops, and the measurements come last
 pub data RunsTrace {R W : Type 0} (does : Meaning Machine) (booted : Machine) (trace : Bor (List ℕ))
     (measure : Bool) (second : Reading R) (out : Writing W) : Result ℕ Trouble → Type 0 where
   to_its_end :
@@ -59,8 +58,8 @@ pub data RunsTrace {R W : Type 0} (does : Meaning Machine) (booted : Machine) (t
       → second.failed ≡ second.failures → WriteFails out.failures out.failed out.stalls out.stalled
       → RunsTrace does booted trace measure second out (Err Output)
 
--- a trace happens so and a comment after each answer says what happened: after the report come
--- the measurements, and last a summary
+-- a machine runs a trace and a comment after each answer explains what happened: after the report
+-- come the measurements, and then a summary
 pub data RunsExplaining {R W : Type 0} (does : Meaning Machine) (booted : Machine)
     (trace : Bor (List ℕ)) (measure : Bool) (second : Reading R)
     (out : Writing W) : Result ℕ Trouble
@@ -91,9 +90,8 @@ pub data RunsExplaining {R W : Type 0} (does : Meaning Machine) (booted : Machin
       → second.failed ≡ second.failures → WriteFails out.failures out.failed out.stalls out.stalled
       → RunsExplaining does booted trace measure second out (Err Output)
 
--- a trace happens so and its answers are compared with those that its comments say: where one
--- differs, the first that does is reported after the report and the measurements, and the status is
--- 1
+-- a machine runs a trace and its answers are compared with those expected in its comments: the
+-- first mismatch is reported after the report and the measurements, with the status 1
 pub data RunsExpecting {R W : Type 0} (does : Meaning Machine) (booted : Machine)
     (trace : Bor (List ℕ)) (measure : Bool) (second : Reading R)
     (out : Writing W) : Result ℕ Trouble
@@ -127,8 +125,8 @@ pub data RunsExpecting {R W : Type 0} (does : Meaning Machine) (booted : Machine
       → WriteFails out.failures out.failed out.stalls out.stalled
       → RunsExpecting does booted trace measure second out (Err Output)
 
--- a trace happens to a machine; with `--explain` a comment after each answer says what happened,
--- and the summary comes last; with `--expect` the answers are compared
+-- a machine runs a trace; with `--explain` a comment after each answer explains what happened, and
+-- the summary comes last; with `--expect` the answers are compared
 abbrev pub RunsTraceAs : {R W : Type 0} → Answers → Machine → Bor (List ℕ) → Bool → Reading R
     → Writing W → Result ℕ Trouble → Type 0
 RunsTraceAs answers.Plain booted trace measure second out done =
@@ -138,7 +136,7 @@ RunsTraceAs answers.Explained booted trace measure second out done =
 RunsTraceAs answers.Compared booted trace measure second out done =
     RunsExpecting DoesLine booted trace measure second out done
 
--- `run`: the platform is read and booted, and then the trace happens to its machine
+-- `run` reads and boots the platform, and then its machine runs the trace
 pub data Runs {R W : Type 0} (answers : Answers) (file trace : Bor (List ℕ)) (measure : Bool)
     (first second : Reading R) (out : Writing W) : Result ℕ Trouble → Type 0 where
   ran :

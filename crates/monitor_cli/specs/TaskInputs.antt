@@ -1,4 +1,4 @@
--- What reads at the places of a task.
+-- The inputs of a task.
 use Rattle.std.specs.Prelude.{◌≡◌, ℕ, List, [], Option, Some, None}
 use Rattle.std.specs.Borrow.{Bor}
 use Rattle.text_lines.specs.declared.streams.Counted.{Counted}
@@ -11,18 +11,18 @@ use Rattle.command_line.specs.declared.places.InputName.TheVariants.{File, Stand
 use Rattle.command_line.specs.Places.{first_of, second_of}
 use Rattle.program_files.specs.Inputs.{IsOfFile, IsOfStream}
 
--- an input reads at a place, with that standard input; where there is none, the file of no name,
--- which is not there
+-- an input reads from a place, with this standard input; if the task has no such input, its name is
+-- that of no file
 abbrev pub IsAt : {R S F D : Type 0} → S → Option InputName → InputToRead R S F D → Type 0
 IsAt stdin (Some (File name)) input = IsOfFile name input
 IsAt stdin (Some StandardInput) input = IsOfStream stdin input
 IsAt stdin None input = (name : Bor (List ℕ)) × (name.now ≡ []) × IsOfFile name input
 
--- what a task reads: its failures are counted, and why the last one came is kept
+-- an input of a task, which counts failures and records the reason of the last one
 abbrev pub Input : Type 0 → Type 0 → Type 0 → Type 0 → Type 0
 Input R S F D = Counted (Explained (InputToRead R S F D))
 
--- the file or the stream that it is
+-- the file or the stream of an input
 abbrev pub reader_in : {R S F D : Type 0} → Input R S F D → InputToRead R S F D
 reader_in {R = R} {S = S} {F = F} {D = D} input =
     (inner_of {T = Explained (InputToRead R S F D)} input).inner
@@ -31,7 +31,7 @@ reader_in {R = R} {S = S} {F = F} {D = D} input =
 abbrev pub IsFresh : {R S F D : Type 0} → Input R S F D → Type 0
 IsFresh input = failures_of input ≡ 0
 
--- inputs read at the places of a task, what it reads first and what after that, and have not failed
+-- these are the first and the second input of a task, and they have not failed
 pub record AreInputs {R S F D : Type 0} (stdin : S) (task : Task) (first second : Input R S F D) :
     Type 0 where
   pub at_first : IsAt stdin (Some (first_of task)) (reader_in first)

@@ -1,4 +1,4 @@
--- What `check` prints.
+-- The output of `check`.
 use Rattle.std.specs.Prelude.{ℕ, List}
 use Rattle.pmp_encoding.specs.Limits.{limit_number}
 use Rattle.pmp_match.specs.Meaning.{View}
@@ -9,13 +9,13 @@ use Rattle.certificate_format.specs.declared.header.Version.{Version}
 use Rattle.certificate_format.specs.declared.header.Version.TheVariants.{One, Two}
 use Rattle.map_text.specs.Texts.{accepted_text, accepted_of_text, refused_text}
 
--- a yes: of a certificate of version 2 it names the limit
+-- a yes, which for a certificate of version 2 contains the limit
 abbrev pub accepted_by : Version → ℕ → List ℕ
 accepted_by One n = accepted_text n
 accepted_by (Two limit) n = accepted_of_text n (limit_number limit)
 
--- what `check` answers for a certificate of a view, its line and its status: a yes with 0 where it
--- is right, and otherwise a no with 1
+-- the line and the status of `check` for a certificate of a view: a yes with 0 if it is right, and
+-- otherwise a no with 1
 pub data IsVerdict (view : View) (bytes : List ℕ) : List ℕ → ℕ → Type 0 where
   yes : (n : ℕ) (right : IsRight view bytes n)
       → IsVerdict view bytes (accepted_by right.version n) 0

@@ -1,4 +1,4 @@
-//! What a command answers: the program's status, and what is said beside it.
+//! The result of a command: the exit status and its notes.
 
 ghost use Rattle.std.specs.Prelude.{◌≡◌};
 ghost use Rattle.monitor_cli.specs.Answered.{answer_status, judged, status_in};
@@ -8,26 +8,26 @@ use program_files::Trouble;
 use register_audit::ListingNotes;
 use trace_answers::CommentNote;
 
-/// What is said beside a status, on standard error: whole lines, each of which begins with `# `.
+/// The notes beside a status, for standard error: whole lines, each of which begins with `# `.
 pub type Notes = ArrayVec<u8, 640>;
 
-/// What a command answers: the program's status, and what is said beside it.
+/// The result of a command: the exit status and its notes.
 #[derive(Drop)]
 pub struct Answered {
-    /// The program's status.
+    /// The exit status.
     pub status: u8,
-    /// What is said on standard error.
+    /// The notes for standard error.
     pub notes: Notes,
 }
 
-/// The status of an answer: 0 for a yes, and 1 for a no.
+/// Returns the status of a decision: 0 for a yes, and 1 for a no.
 pub(crate) fn answer_status(yes: bool) -> u8
     ensures { result ≡ answer_status yes }
 {
     if yes { 0 } else { 1 }
 }
 
-/// That status, and beside it what is said of a listing of registers and of the comments of a trace.
+/// Returns this status, with the notes on a listing of registers and on the comments of a trace.
 pub(crate) fn noted(status: u8, listing: &ListingNotes, comments: &CommentNote) -> Answered
     ensures { result.status ≡ status }
 {
@@ -37,7 +37,7 @@ pub(crate) fn noted(status: u8, listing: &ListingNotes, comments: &CommentNote) 
     Answered { status, notes }
 }
 
-/// What a command answers that has this status, or this trouble, and says this of a listing of registers.
+/// Returns the result of a command with this status or failure, and the notes on a listing of registers.
 pub(crate) fn with_notes<'a>(
     listing: &ListingNotes,
     done: Result<u8, Trouble<'a>>,
@@ -50,14 +50,14 @@ pub(crate) fn with_notes<'a>(
     }
 }
 
-/// What a command answers that has this status, or this trouble, and says nothing beside it.
+/// Returns the result of a command with this status or failure, without notes.
 pub(crate) fn quiet<'a>(done: Result<u8, Trouble<'a>>) -> Result<Answered, Trouble<'a>>
     ensures { status_in result ≡ done.entry }
 {
     with_notes(&ArrayVec::new(), done)
 }
 
-/// What a command answers that says yes or no.
+/// Returns the result of a command that decides yes or no.
 pub(crate) fn yes_or_no<'a>(done: Result<bool, Trouble<'a>>) -> Result<Answered, Trouble<'a>>
     ensures { status_in result ≡ judged done.entry }
 {

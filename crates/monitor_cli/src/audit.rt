@@ -1,4 +1,4 @@
-//! `audit`: registers against a map.
+//! `audit`: compares registers with a map.
 
 ghost use Rattle.std.specs.Prelude.{◌-◌, ◌^◌, ◌<◌};
 ghost use Rattle.text_lines.specs.Writings.{writing};
@@ -13,8 +13,8 @@ use register_audit::audit;
 use std::alloc::Global;
 use text_lines::{Sink, Source};
 
-/// Audits registers against a map for a mode, and answers whether they mean it. With `all` there is a line for each stretch that
-/// differs, otherwise for the first alone.
+/// Audits registers against a map for a mode, and returns whether they mean it. Prints the first stretch that differs,
+/// or with `all` a line for each.
 #[inline(never)]
 pub(crate) fn do_audit<'a, R: Source, W: Sink>(
     alloc: Global,

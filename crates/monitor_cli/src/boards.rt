@@ -1,4 +1,4 @@
-//! Commands that print the text of a board: `platform`, and `map` of a device tree.
+//! Commands that print a board as text: `platform`, and `map` of a device tree.
 
 ghost use Rattle.std.specs.Prelude.{◌≡◌, ◌⊎◌, ◌^◌, ◌<◌, ℕ, List};
 ghost use Rattle.text_lines.specs.Writings.{writing};
@@ -11,10 +11,10 @@ use program_files::{Trouble, bytes_in};
 use std::alloc::Global;
 use text_lines::{Sink, Source, write_whole};
 
-/// How many bytes a device tree may have.
+/// Maximum size of a device tree in bytes.
 pub const TREE_BYTES: usize = 1 << 20;
 
-/// The trouble of a device tree in a file of that name of which there is no text.
+/// Converts a fault of a device tree in a file with this name.
 pub(crate) fn board_trouble<'a>(file: &'a str, fault: &BoardTextFault) -> Trouble<'a>
     ensures { (result ≡ Trouble.Memory)
         ⊎ ((said : List ℕ) × (result ≡ Trouble.NoBoardText file.entry said)) }
@@ -40,7 +40,7 @@ pub(crate) fn board_trouble<'a>(file: &'a str, fault: &BoardTextFault) -> Troubl
     }
 }
 
-/// Prints the platform of a board's device tree, with the monitor where its base and size are given.
+/// Prints the platform of a board's device tree, with the given base and size of the monitor, if any.
 #[inline(never)]
 pub(crate) fn do_platform<'a, R: Source, W: Sink>(
     alloc: Global,

@@ -1,4 +1,4 @@
-//! What takes a plan's certificate.
+//! Sinks for a plan's certificate.
 
 ghost use Rattle.std.specs.Prelude.{◌≡◌, ℕ, Bool, List, Option, IfErr, IfOk, length, false};
 ghost use Rattle.text_lines.specs.Writings.{writing, TakesAll};
@@ -15,18 +15,19 @@ use pmp_encoding::{Limit, PackedEntry};
 use program_files::WholeSink;
 use text_lines::{DeviceFault, Sink};
 
-/// A certificate is put in its place whole, or not at all.
+/// A certificate is written whole, or not at all.
 pub struct Whole;
 
-/// A certificate is written where it is to be.
+/// A certificate is written directly to the sink.
 pub struct Straight;
 
-/// A sink that takes a certificate, as `M` says: [`Whole`] where the sink has a place for it, [`Straight`] on any sink.
+/// A sink that takes a certificate in the mode `M`: [`Whole`] if the sink has a place for it, [`Straight`] for any
+/// sink.
 pub trait CertificateSink<M>: Sink {
-    /// The bytes that are in the place, where they are known.
+    /// The bytes in the place, if they are known.
     ghost stands: { Self → Option (List ℕ) };
 
-    /// Whether the place is apart from what takes the bytes.
+    /// True if the place is separate from the sink that takes the bytes.
     ghost is_apart: { Bool };
 
     /// Takes the certificate of a map's plan, and puts it in its place.

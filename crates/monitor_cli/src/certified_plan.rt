@@ -19,7 +19,7 @@ use program_files::Trouble;
 use std::alloc::Global;
 use text_lines::DeviceFault;
 
-/// Refuses a plan that is beyond the bound.
+/// Checks that a plan is within the bound.
 fn within<'a>(plan: &Plan<PackedEntry>, most: Option<u64>) -> Result<(), Trouble<'a>>
     ensures within { IfOk result (λ _. IsWithin most (length plan.now.entries)) }
     ensures small { length plan.now.entries < 2 ^ 32 }
@@ -34,7 +34,7 @@ fn within<'a>(plan: &Plan<PackedEntry>, most: Option<u64>) -> Result<(), Trouble
     }
 }
 
-/// Refuses a plan that has an entry which the hart's address registers do not reach.
+/// Checks that the hart's address registers reach all entries of a plan.
 fn check_reach<'a>(plan: &Plan<PackedEntry>, xlen: Xlen, file: &'a str) -> Result<(), Trouble<'a>>
     ensures reached { IfOk result (λ _. AreReached xlen plan.now.entries) }
     ensures beyond { IfErr result (λ trouble. (AreReached xlen plan.now.entries → ⊥)
@@ -46,7 +46,7 @@ fn check_reach<'a>(plan: &Plan<PackedEntry>, xlen: Xlen, file: &'a str) -> Resul
     Err(Trouble::TooFar { file })
 }
 
-/// The fewest entries of a map, of the lists of that many the one that the planner chooses, where they are within the bound and the
+/// Returns the planner's choice among the minimal lists of entries of a map, if they are within the bound and the
 /// hart's address registers reach them.
 pub(crate) fn plan_within<'a>(
     alloc: Global,
@@ -71,8 +71,8 @@ pub(crate) fn plan_within<'a>(
     Ok(plan)
 }
 
-/// Puts the certificate of a map's plan in its place, where a file for it is named. (Out of line, so that a plan without one has no
-/// room for its pieces on the stack.)
+/// Puts the certificate of a map's plan in its place, if a file for it is named. It is out of line, so that a plan
+/// without one has no stack space for its pieces.
 #[inline(never)]
 pub(crate) fn put_certificate<'a, M, C: CertificateSink<M>>(
     map: &PermissionMap,

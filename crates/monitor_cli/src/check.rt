@@ -1,4 +1,4 @@
-//! `check`: a certificate against a map.
+//! `check`: checks a certificate against a map.
 
 ghost use Rattle.std.specs.Prelude.{◌≡◌, ℕ, ◌-◌, ◌^◌, ◌<◌, List, IfErr, IfOk};
 ghost use Rattle.text_lines.specs.Writings.{writing};
@@ -20,7 +20,7 @@ use program_files::{CERTIFICATE_BYTES, Trouble, map_in};
 use std::alloc::Global;
 use text_lines::{Line, Sink, Source, write_whole};
 
-/// The line for a yes: of a certificate of version 2 it names the limit.
+/// Returns the line for a yes. For a certificate of version 2 it contains the limit.
 fn yes_line(header: &Header) -> Line
     ensures { result ≡ accepted_by header.now.version header.now.count }
 {
@@ -32,7 +32,7 @@ fn yes_line(header: &Header) -> Line
     }
 }
 
-/// The line for a no: the number and the name of the refusal.
+/// Returns the line for a no: the number and the name of the refusal.
 #[tactic(auto, using(crate::proofs::Names::name_fits))]
 fn no_line(refusal: CheckRefusal) -> Line
     ensures { result ≡ refused_text (refusal_number refusal) (refusal_name refusal) }
@@ -40,7 +40,8 @@ fn no_line(refusal: CheckRefusal) -> Line
     refused_line(u64::from(refusal.number()), refusal.name())
 }
 
-/// The line that `check` prints for what was found of a certificate, and its status: 0 for a yes and 1 for a no.
+/// Returns the line and the status that `check` gives for the result of checking a certificate: 0 for a yes and 1 for a
+/// no.
 fn verdict(found: &Result<Header, CheckRefusal>) -> (Line, u8)
     ensures yes { (view : View) (bytes : List ℕ) → IsJudged view bytes found.now
         → (n : ℕ) (right : IsRight view bytes n)
@@ -58,7 +59,7 @@ fn verdict(found: &Result<Header, CheckRefusal>) -> (Line, u8)
     }
 }
 
-/// What is found of the bytes of a certificate file. They are read to their end, and not held.
+/// Checks the bytes of a certificate file. They are read to their end without being stored.
 fn found_in<'a, R: Source>(
     alloc: Global,
     file: &'a str,
@@ -77,7 +78,7 @@ fn found_in<'a, R: Source>(
     }
 }
 
-/// Checks a certificate against a map, and answers the status 0 for a yes and 1 for a no.
+/// Checks a certificate against a map, and returns the status 0 for a yes and 1 for a no.
 #[inline(never)]
 pub(crate) fn do_check<'a, R: Source, W: Sink>(
     alloc: Global,

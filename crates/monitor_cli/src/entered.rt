@@ -1,4 +1,4 @@
-//! The words of the command line, and what they ask for; or the end of a program that they ask for nothing that can be done.
+//! Reads the command line: returns its request, or the exit status if there is nothing to perform.
 
 ghost use Rattle.std.specs.Prelude.{◌≡◌, ◌⊎◌, IfErr, IfOk, map, string_bytes};
 ghost use Rattle.std.specs.Process.{exit_status};
@@ -18,7 +18,7 @@ use std::process::ExitCode;
 use std::rt::Env;
 use std::str::from_utf8;
 
-/// The words of the command line, the program's own first.
+/// Returns the words of the command line, the program's name first.
 fn read_words(rt: &HostRuntime) -> io::Result<Vec<String>> {
     let mut words = Vec::new(rt.alloc());
     for word in env::args(rt)? {
@@ -27,8 +27,8 @@ fn read_words(rt: &HostRuntime) -> io::Result<Vec<String>> {
     Ok(words)
 }
 
-/// The words of the command line, the program's own first. Where one is no text, or memory for them is refused, that is
-/// reported, and the status is answered with which the program ends.
+/// Returns the words of the command line, the program's name first. If a word is not UTF-8, or an allocation fails,
+/// reports this and returns the exit status.
 pub fn words_in(rt: &HostRuntime) -> Result<Vec<String>, ExitCode>
     ensures { IfErr result (λ code. exit_status code ≡ 2 ⊎ exit_status code ≡ 4) }
 {
@@ -44,7 +44,7 @@ pub fn words_in(rt: &HostRuntime) -> Result<Vec<String>, ExitCode>
     }
 }
 
-/// The words as texts. Where memory for them is refused, that is reported, and the status is answered.
+/// Returns the words as texts. If an allocation fails, reports this and returns the exit status.
 pub fn texts_in<'a>(rt: &HostRuntime, words: &'a [String]) -> Result<Vec<&'a str>, ExitCode>
     ensures texts { IfOk result (λ texts.
         map (λ text. text.now) texts.items ≡ map string_bytes words.entry.now) }
@@ -59,8 +59,8 @@ pub fn texts_in<'a>(rt: &HostRuntime, words: &'a [String]) -> Result<Vec<&'a str
     Ok(texts)
 }
 
-/// What the words ask for; the first is the program's own. Where that is help or the version it is printed. Where they ask for
-/// nothing that can be done, why is reported. Then the status is answered with which the program ends.
+/// Returns the request of the words, of which the first is the program's name. If they ask for help or the version,
+/// prints it; if they are invalid, reports the fault; then returns the exit status.
 pub fn request_in<'a>(rt: &HostRuntime, words: &'a [&'a str]) -> Result<Request<'a>, ExitCode>
     ensures request { IfOk result (IsRequest (subcommand_of program_app
         (map (λ s. s.now) words.entry.now))) }
@@ -72,7 +72,7 @@ pub fn request_in<'a>(rt: &HostRuntime, words: &'a [&'a str]) -> Result<Request<
     }
 }
 
-/// Help or the version on standard output, or a fault of the command line on standard error.
+/// Prints help or the version on standard output, or a fault of the command line on standard error.
 fn exit_with_usage(rt: &HostRuntime, error: &Error) -> ExitCode
     ensures { IsStatusOf (kind_of error.now) (exit_status result) }
 {
@@ -89,7 +89,7 @@ fn exit_with_usage(rt: &HostRuntime, error: &Error) -> ExitCode
     }
 }
 
-/// Reports a fault of the command line, with the usage of its subcommand, or that there is no memory to say it.
+/// Reports a fault of the command line, with the usage of its subcommand, or a failed allocation.
 pub(crate) fn exit_with_fault(rt: &HostRuntime, name: &str, fault: &Fault<'_>) -> ExitCode
     ensures { exit_status result ≡ 2 ⊎ exit_status result ≡ 4 }
 {
@@ -99,7 +99,7 @@ pub(crate) fn exit_with_fault(rt: &HostRuntime, name: &str, fault: &Fault<'_>) -
     }
 }
 
-/// The words without control characters.
+/// Returns the words without control characters.
 fn shown_words(rt: &HostRuntime, words: &[&str]) -> Result<Vec<Vec<u8>>, AllocError> {
     let mut all = Vec::new(rt.alloc());
     for word in words {
@@ -109,7 +109,7 @@ fn shown_words(rt: &HostRuntime, words: &[&str]) -> Result<Vec<Vec<u8>>, AllocEr
     Ok(all)
 }
 
-/// Such words as texts.
+/// Returns such words as texts.
 fn texts_of<'a>(rt: &HostRuntime, words: &'a [Vec<u8>]) -> Result<Vec<&'a str>, AllocError> {
     let mut texts = Vec::new(rt.alloc());
     for word in words {
@@ -118,7 +118,7 @@ fn texts_of<'a>(rt: &HostRuntime, words: &'a [Vec<u8>]) -> Result<Vec<&'a str>, 
     Ok(texts)
 }
 
-/// Says what is wrong with a command line, in words without control characters where there is memory for them.
+/// Reports a fault of the command line, in words without control characters unless an allocation fails.
 fn refuse(rt: &HostRuntime, words: &[&str], error: &Error) -> ExitCode
     ensures { IsStatusOf (kind_of error.now) (exit_status result) }
 {
@@ -134,10 +134,10 @@ fn refuse(rt: &HostRuntime, words: &[&str], error: &Error) -> ExitCode
     }
 }
 
-/// How many bytes of a word are looked at.
+/// Maximum number of bytes of a word to inspect.
 const LONGEST: usize = 4096;
 
-/// Says that a word is no text, and where it stops to be one.
+/// Reports that a word is not UTF-8, and the first invalid byte.
 fn say_word(rt: &HostRuntime, number: usize, word: &[u8], at: usize) {
     match quoted(rt.alloc(), word) {
         Ok(text) => {
@@ -152,7 +152,7 @@ fn say_word(rt: &HostRuntime, number: usize, word: &[u8], at: usize) {
     }
 }
 
-/// Says which word of the command line is the first that is not text. Words are counted after the program's own.
+/// Reports the first word of the command line that is not UTF-8. Words are counted after the program's name.
 fn say_which(rt: &HostRuntime) {
     let mut buf = [0; LONGEST];
     for number in 1..usize::MAX {

@@ -1,5 +1,5 @@
-//! What an input should be, and the hint of one that is not: what `lint` says of it, line by line, or that it has more bytes than it
-//! may.
+//! The expected form of an input, and hints for one without it: `lint`'s messages line by line, or that it is too
+//! large.
 
 ghost use Rattle.std.specs.Prelude.{◌<◌, ◌^◌};
 
@@ -14,17 +14,17 @@ use program_files::{
 use std::alloc::{AllocError, Global};
 use text_lines::{Counted, Source, split_line};
 
-/// What is said of an input, where there is something to say.
+/// The hint for an input, if there is one.
 pub(crate) type Hint<'a> = Result<Option<Vec<u8>>, Trouble<'a>>;
 
-/// What an input should be.
+/// The expected form of an input.
 #[derive(Clone, Copy)]
 pub(crate) enum Form {
     /// A map.
     Map,
     /// A platform.
     Platform,
-    /// A listing of registers of that width.
+    /// A listing of registers with this width.
     Listing(Xlen),
     /// Such a listing, or a device tree.
     ListingOrTree(Xlen),
@@ -32,12 +32,12 @@ pub(crate) enum Form {
     Tree,
     /// A certificate.
     Certificate,
-    /// A trace, by what takes its lines.
+    /// A trace, given the command that reads its lines.
     Trace(Taker),
 }
 
 impl Form {
-    /// How many bytes such a file may have that is read whole.
+    /// Returns the maximum size in bytes of such a file that is read whole.
     fn most_bytes(self) -> usize
         ensures { result < 2 ^ 32 }
     {
@@ -51,7 +51,7 @@ impl Form {
         }
     }
 
-    /// What is said of one that has more.
+    /// Returns the message for a file that is larger.
     fn size_text(self) -> &'static str {
         match self {
             Form::Map => ": more than 1048576 bytes; a map has at most 1 MiB\n",
@@ -71,7 +71,7 @@ impl Form {
     }
 }
 
-/// The hint of a file, under its name as it is shown, which ends so.
+/// Returns the hint for a file, under its printed name, with this end.
 pub(crate) fn hint_of(alloc: Global, name: &str, end: &[u8]) -> Result<Vec<u8>, AllocError> {
     let named = shown(alloc, name.as_bytes())?;
     let mut hint = Vec::new(alloc);
@@ -81,16 +81,16 @@ pub(crate) fn hint_of(alloc: Global, name: &str, end: &[u8]) -> Result<Vec<u8>, 
     Ok(hint)
 }
 
-/// What was read of a file.
+/// The result of reading a file.
 #[derive(Drop)]
 pub(crate) enum FileOrHint {
     /// Its bytes.
     Bytes(Vec<u8>),
-    /// The hint that it has more than it may.
+    /// The hint that it is too large.
     Hint(Vec<u8>),
 }
 
-/// The bytes of a file of that form, or the hint that it has more than it may.
+/// Returns the bytes of a file of this form, or the hint that it is too large.
 pub(crate) fn bytes_or_hint<'a, R: Source>(
     alloc: Global,
     form: Form,
@@ -107,7 +107,7 @@ pub(crate) fn bytes_or_hint<'a, R: Source>(
     }
 }
 
-/// The hint of an input that has more bytes than it may. They are not held: a trace may have 1 GiB.
+/// Returns the hint for an input that is too large. Its bytes are not stored: a trace may have 1 GiB.
 pub(crate) fn size_hint<'a, R: Source>(
     alloc: Global,
     form: Form,
@@ -121,7 +121,7 @@ pub(crate) fn size_hint<'a, R: Source>(
     }
 }
 
-/// The lines of a text, each after `hint: `.
+/// Returns the lines of a text, each after `hint: `.
 fn hints_in(alloc: Global, text: &[u8]) -> Result<Vec<u8>, AllocError> {
     let mut hints = Vec::new(alloc);
     let mut is_first = true;
@@ -135,7 +135,7 @@ fn hints_in(alloc: Global, text: &[u8]) -> Result<Vec<u8>, AllocError> {
     Ok(hints)
 }
 
-/// What `lint` says of bytes that should be of that form, each line as a hint, where they are not.
+/// Returns `lint`'s messages for bytes that do not have the form, each line as a hint.
 pub(crate) fn hints_for(alloc: Global, form: Form, name: &str, bytes: &[u8]) -> Hint<'static> {
     if bytes.len() > TRACE_BYTES {
         return Ok(None);
@@ -157,7 +157,7 @@ pub(crate) fn hints_for(alloc: Global, form: Form, name: &str, bytes: &[u8]) -> 
     Ok(Some(hints_in(alloc, text.as_slice())?))
 }
 
-/// What is said of an input that should be of that form.
+/// Returns the hints for an input that should have this form.
 pub(crate) fn hints_of<'a, R: Source>(
     alloc: Global,
     form: Form,

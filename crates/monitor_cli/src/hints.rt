@@ -1,4 +1,4 @@
-//! Hints: what is wrong with the inputs of a task that ended for bad input, line by line, as `lint` says it.
+//! Hints: `lint`'s line-by-line messages for the inputs of a task that ended because of bad input.
 
 use crate::certified_plan::plan_within;
 use crate::forms::{
@@ -18,16 +18,16 @@ use program_files::{Trouble, map_by};
 use std::alloc::Global;
 use text_lines::{Sink, Source, write_whole};
 
-/// How many entries a map may need.
+/// Bounds on the number of entries of a map.
 #[derive(Clone, Copy)]
 struct Bounds {
-    /// This many at most, where there is a bound.
+    /// The maximum, if there is one.
     most: Option<u64>,
-    /// This many have configuration words, where these are printed for no more.
+    /// The number of entries for which configuration words are printed, if that is bounded.
     words: Option<u64>,
 }
 
-/// The hint of a map that needs this many entries, where that is more than it may, or than configuration words have room for.
+/// Returns the hint for a map that needs more entries than the maximum, or than the configuration words have room for.
 fn need_hint(alloc: Global, name: &str, bounds: Bounds, needed: u64) -> Hint<'static> {
     let entries = if needed == 1 { "entry" } else { "entries" };
     if let Some(most) = bounds.most {
@@ -47,7 +47,7 @@ fn need_hint(alloc: Global, name: &str, bounds: Bounds, needed: u64) -> Hint<'st
     Ok(None)
 }
 
-/// The hint of a platform that does not boot.
+/// Returns the hint for a platform that does not boot.
 fn boot_hint(alloc: Global, name: &str, platform: Platform) -> Hint<'static> {
     let limit = platform.limit();
     match Machine::boot(alloc, platform) {
@@ -60,7 +60,8 @@ fn boot_hint(alloc: Global, name: &str, platform: Platform) -> Hint<'static> {
     }
 }
 
-/// The hints of `run`: those of its platform; where it is right that it does not boot; and otherwise those of its trace.
+/// Returns the hints for `run`: those for its platform; if that is valid, that it does not boot; otherwise those for
+/// its trace.
 fn hints_of_run<'a, R: Source>(
     alloc: Global,
     platform: &'a str,
@@ -83,7 +84,7 @@ fn hints_of_run<'a, R: Source>(
     hints_of(alloc, Form::Trace(Taker::Run { harts }), trace, second)
 }
 
-/// How many entries the map of the bytes of a map file needs.
+/// Returns the number of entries that the map in a map file needs.
 fn needed_by<'a>(alloc: Global, name: &'a str, bytes: &[u8]) -> Result<u64, Trouble<'a>> {
     if bytes.len() > u32::MAX as usize {
         return Err(Trouble::TooLarge { file: name });
@@ -93,7 +94,7 @@ fn needed_by<'a>(alloc: Global, name: &'a str, bytes: &[u8]) -> Result<u64, Trou
     Ok(plan.entries().len() as u64)
 }
 
-/// The hints of a map: what is wrong with it, or that it needs more entries than it may.
+/// Returns the hints for a map: its faults, or that it needs too many entries.
 fn hints_of_map<'a, R: Source>(
     alloc: Global,
     name: &'a str,
@@ -111,7 +112,7 @@ fn hints_of_map<'a, R: Source>(
     need_hint(alloc, name, bounds, needed)
 }
 
-/// The hints of a file that is a listing of registers, where the options say so, or a map.
+/// Returns the hints for a file that is a listing of registers, according to the options, or a map.
 fn hints_of_file<'a, R: Source>(
     alloc: Global,
     options: &Options<'a>,
@@ -125,7 +126,7 @@ fn hints_of_file<'a, R: Source>(
     hints_of_map(alloc, name, Bounds { most, words: None }, source)
 }
 
-/// The hints of a plan: those of its map, or that configuration words have no room for its entries.
+/// Returns the hints for a plan: those for its map, or that the configuration words have no room for its entries.
 fn hints_of_plan<'a, R: Source>(
     alloc: Global,
     name: &'a str,
@@ -140,7 +141,7 @@ fn hints_of_plan<'a, R: Source>(
     hints_of_map(alloc, name, bounds, source)
 }
 
-/// The hints of `map`: a device tree has none, and a listing of registers those of its lint.
+/// Returns the hints for `map`: a device tree has none, and a listing of registers those of its lint.
 fn hints_of_source<'a, R: Source>(
     alloc: Global,
     xlen: Xlen,
@@ -155,8 +156,8 @@ fn hints_of_source<'a, R: Source>(
     }
 }
 
-/// The hints of `lint`, which itself speaks of what is wrong with its file: those of a platform that is named with a trace, and that
-/// the file has more bytes than it may.
+/// Returns the hints for `lint`, which reports the faults of its file itself: those for a platform that is named with a
+/// trace, and that the file is too large.
 fn hints_of_lint<'a, R: Source>(
     alloc: Global,
     options: &Options<'a>,
@@ -179,7 +180,7 @@ fn hints_of_lint<'a, R: Source>(
     size_hint(alloc, form, file, first)
 }
 
-/// The hints of a task: those of the first of its inputs that is not what it should be.
+/// Returns the hints for a task: those for the first of its inputs that is invalid.
 fn task_hints<'a, R: Source>(
     alloc: Global,
     request: &Request<'a>,
@@ -220,10 +221,10 @@ fn task_hints<'a, R: Source>(
     }
 }
 
-/// Says what is wrong with the inputs of a task that ended for bad input, which are read anew from `first` and `second`: of the
-/// first that is not what it should be each line of its lint, after `hint: `; of a map that needs more entries than it may, how
-/// many. Of a plan that was printed without configuration words it says so too. Nothing is said where each is what it should be,
-/// where one could not be read, or where memory is refused.
+/// Prints hints for the inputs of a task that ended because of bad input, re-reading them from `first` and `second`:
+/// `lint`'s messages for the first invalid input, each after `hint: `; or the number of entries of a map that needs too
+/// many, which is also reported for a plan that was printed without configuration words. Prints nothing if each input
+/// is valid, if one could not be read, or if an allocation fails.
 pub fn tell_hints<R: Source, E: Sink>(
     alloc: Global,
     request: &Request<'_>,

@@ -1,4 +1,4 @@
-//! `judge`: the accesses of a trace, by the entries of a map, or by registers as they are.
+//! `judge`: judges the accesses of a trace by the entries of a map, or by given registers.
 
 ghost use Rattle.std.specs.Prelude.{◌-◌, ◌^◌, ◌<◌, IfErr, IfOk, List, Option, Some, ℕ, ◌≡◌, option_map};
 ghost use Rattle.text_lines.specs.Writings.{writing, Breaks, IsWell};
@@ -24,7 +24,7 @@ use std::alloc::Global;
 use text_lines::{DeviceFault, LineSink, Sink, Source, write_whole};
 use trace_answers::{CommentNote, Compared, Difference, compare_judged, explain_judged};
 
-/// Reports the first difference, where there is one, and answers the status.
+/// Reports the first difference, if there is one, and returns the status.
 pub(crate) fn tell_first<W: Sink>(
     first: &Option<Difference>,
     out: &mut W,
@@ -62,7 +62,7 @@ fn judge_plainly<'a, J: AccessJudge, R: Source, L, W: LineSink<L>>(
     Ok(0)
 }
 
-/// Judges a trace, and says after each answer which entry decided it.
+/// Judges a trace, and explains after each answer which entry decided it.
 #[inline(never)]
 fn judge_explaining<'a, J: AccessJudge, D: Deciders, R: Source, L, W: LineSink<L>>(
     by: &J,
@@ -81,7 +81,7 @@ fn judge_explaining<'a, J: AccessJudge, D: Deciders, R: Source, L, W: LineSink<L
     Ok(0)
 }
 
-/// Judges a trace, and compares the answers with those that its comments say.
+/// Judges a trace, and compares the answers with those expected in its comments.
 #[inline(never)]
 fn judge_expecting<'a, J: AccessJudge, R: Source, L, W: LineSink<L>>(
     by: &J,
@@ -105,7 +105,7 @@ fn judge_expecting<'a, J: AccessJudge, R: Source, L, W: LineSink<L>>(
     Ok(noted(status, notes, &note))
 }
 
-/// Judges a trace, and writes of the answers what is asked for; beside the status comes what is said of the listing.
+/// Judges a trace, with the requested kind of answers; the result includes the notes on the listing.
 fn judge_by<'a, J: AccessJudge, D: Deciders, R: Source, L, W: LineSink<L>>(
     by: &J,
     deciders: &D,
@@ -129,7 +129,7 @@ fn judge_by<'a, J: AccessJudge, D: Deciders, R: Source, L, W: LineSink<L>>(
     }
 }
 
-/// How many entries a hart of that limit has.
+/// Returns the number of entries of a hart with this limit.
 fn entry_count(limit: Limit) -> u64
     ensures { result ≡ limit_number limit }
 {
@@ -170,7 +170,7 @@ fn judge_by_map<'a, R: Source, L, W: LineSink<L>>(
     )
 }
 
-/// Takes registers as they are and judges a trace by them. The status is 1 where they judge nothing.
+/// Judges a trace by given registers. The status is 1 if they judge nothing.
 #[inline(never)]
 fn judge_by_registers<'a, R: Source, L, W: LineSink<L>>(
     alloc: Global,
@@ -202,7 +202,7 @@ fn judge_by_registers<'a, R: Source, L, W: LineSink<L>>(
     }
 }
 
-/// Judges a trace by the entries of a map, or by registers as they are, and writes of the answers what is asked for.
+/// Judges a trace by the entries of a map, or by given registers, with the requested kind of answers.
 pub(crate) fn do_judge<'a, R: Source, L, W: LineSink<L>>(
     alloc: Global,
     file: &'a str,

@@ -1,14 +1,16 @@
-//! The program's tasks, done on the files and streams that are lent for them: maps are planned, shown and audited, certificates
-//! checked, traces judged and run, files linted and enclaves measured.
+//! Performs the program's tasks on the files and streams that are lent to them: plans, shows and audits maps, checks
+//! certificates, judges and runs traces, lints files and measures enclaves.
 //!
-//! For the layer above: [`command_of`] answers the [`Task`] that the words of a command line name, and [`perform`] does it and
-//! answers the program's status. Its clause says of each command, which is a module of its own, what was read, decided and written,
-//! and why there is no answer. A task alone is done with the options of a command line that names none; [`perform_request`] does a
-//! [`Request`], which has both, and puts a certificate in its place whole. [`perform_on_files`] does one on the task's own files, and
-//! says after the end what helps ([`tell_hints`]). The program itself reads its words by [`words_in`], [`texts_in`] and
-//! [`request_in`], asks [`may_be_done`] whether the files of a task get in each other's way, and ends by [`exit_with_status`].
+//! For the layer above: [`command_of`] returns the [`Task`] that the words of a command line name, and [`perform`]
+//! performs it and returns the exit status. Its clause states for each command, which has its own module, the inputs
+//! read, the decision, the output written, and the reasons for a failure. A task alone is performed with default
+//! options; [`perform_request`] performs a [`Request`], which includes options, and writes a certificate atomically.
+//! [`perform_on_files`] performs a request on the task's own files, and prints hints at the end ([`tell_hints`]). The
+//! program itself reads its words with [`words_in`], [`texts_in`] and [`request_in`], asks [`may_be_done`] whether the
+//! files of a task conflict, and ends with [`exit_with_status`].
 //!
-//! No command is inlined: the program that calls all of them would have the buffers of all on its stack, whatever it does.
+//! No command is inlined: the program that calls all of them would otherwise have the buffers of all on its stack,
+//! whatever it does.
 //!
 //! ```rust
 //! let task = command_of(rt.alloc(), &["pmpmon", "plan", "map.txt"])?;

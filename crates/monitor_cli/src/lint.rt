@@ -1,4 +1,4 @@
-//! `lint`: what is wrong with a map file, a platform file, a listing of registers or a trace.
+//! `lint`: reports the faults of a map file, a platform file, a listing of registers or a trace.
 
 ghost use Rattle.std.specs.Prelude.{◌≡◌, ◌-◌, ◌^◌, ◌<◌, ℕ, List, IfErr, IfOk, length, true};
 ghost use Rattle.input_files.specs.Traces.{is_trace};
@@ -16,17 +16,17 @@ use register_audit::{is_listing, listing_of};
 use std::alloc::Global;
 use text_lines::{Sink, Source};
 
-/// How many bytes a trace may have that is linted.
+/// Maximum size in bytes of a trace to lint.
 pub const TRACE_BYTES: usize = 1 << 30;
 
-/// Whether a file should be a platform by its name, which ends in `.toml`.
+/// Returns whether a file should be a platform according to its name, which ends in `.toml`.
 pub(crate) fn names_platform(name: &str) -> bool
     ensures { result ≡ names_platform name.now }
 {
     name.as_bytes().ends_with(b".toml")
 }
 
-/// What a fault of a lint is for the program.
+/// Converts a fault of a lint.
 fn lint_trouble(fault: LintFault) -> Trouble<'static>
     ensures { IsOfDevices result }
 {
@@ -36,7 +36,7 @@ fn lint_trouble(fault: LintFault) -> Trouble<'static>
     }
 }
 
-/// Prints what is wrong with the bytes of a map file, and answers whether they are a map.
+/// Prints the faults of a map file, and returns whether it is a map.
 pub(crate) fn lint_map<W: Sink>(
     alloc: Global,
     name: &str,
@@ -54,7 +54,7 @@ pub(crate) fn lint_map<W: Sink>(
     }
 }
 
-/// Prints what is wrong with the bytes of a platform file, or warnings of a platform, and answers whether they are one.
+/// Prints the faults of a platform file, or warnings about a platform, and returns whether it is one.
 pub(crate) fn lint_as_platform<W: Sink>(
     alloc: Global,
     name: &str,
@@ -71,7 +71,7 @@ pub(crate) fn lint_as_platform<W: Sink>(
     }
 }
 
-/// Prints what is wrong with the bytes of a trace that should be taken so, and answers whether they are one.
+/// Prints the faults of a trace for this command, and returns whether it is one.
 pub(crate) fn lint_as_trace<W: Sink>(
     alloc: Global,
     name: &str,
@@ -90,7 +90,7 @@ pub(crate) fn lint_as_trace<W: Sink>(
     }
 }
 
-/// Why a line of a listing is not understood, where by the other width all lines are, or not.
+/// Returns the reason why a line of a listing is invalid, considering whether all lines are valid with the other width.
 fn listing_reason(xlen: Xlen, bytes: &[u8]) -> &'static str
     requires { length bytes.now < 2 ^ 64 - 1 }
 {
@@ -110,7 +110,7 @@ fn listing_reason(xlen: Xlen, bytes: &[u8]) -> &'static str
     }
 }
 
-/// Prints the first line of a listing of registers of that width that is not understood, and answers whether there is none.
+/// Prints the first invalid line of a listing of registers with this width, and returns whether all are valid.
 pub(crate) fn lint_listing<W: Sink>(
     xlen: Xlen,
     name: &str,
@@ -132,7 +132,7 @@ pub(crate) fn lint_listing<W: Sink>(
     }
 }
 
-/// How many harts a trace is for: those of a platform where one is named, otherwise four.
+/// Returns the number of harts for a trace: that of a platform if one is named, otherwise four.
 fn harts_in<'a, R: Source>(
     alloc: Global,
     platform: Option<&'a str>,
@@ -150,7 +150,7 @@ fn harts_in<'a, R: Source>(
     Ok(platform.harts())
 }
 
-/// Prints what is wrong with a file that should be a platform where its name ends in `.toml`, and otherwise a map.
+/// Prints the faults of a file that should be a platform if its name ends in `.toml`, otherwise a map.
 fn lint_by_name<'a, R: Source, W: Sink>(
     alloc: Global,
     file: &'a str,
@@ -170,9 +170,9 @@ fn lint_by_name<'a, R: Source, W: Sink>(
     }
 }
 
-/// Prints what is wrong with a file, line by line, and answers whether it is what it should be: a platform where its name ends in
-/// `.toml` and otherwise a map, or as the options say a listing of registers or a trace, which is for the harts of a platform where
-/// one is named.
+/// Prints the faults of a file line by line, and returns whether it is valid: as a platform if its name ends in
+/// `.toml`, otherwise as a map, or according to the options as a listing of registers or as a trace, for the harts of a
+/// platform if one is named.
 #[inline(never)]
 pub(crate) fn do_lint<'a, R: Source, W: Sink>(
     alloc: Global,

@@ -1,4 +1,4 @@
-//! What a fault of a listing of registers is for the program.
+//! Failures of commands on listings of registers.
 
 ghost use Rattle.std.specs.Prelude.{◌≡◌};
 ghost use Rattle.monitor_cli.specs.ListingTroubles.{listing_trouble};
@@ -6,7 +6,7 @@ ghost use Rattle.monitor_cli.specs.ListingTroubles.{listing_trouble};
 use program_files::Trouble;
 use register_audit::ListingFault;
 
-/// The trouble of a listing in a file of that name.
+/// Converts a fault of a listing in a file with this name.
 pub(crate) fn listing_trouble<'a>(file: &'a str, fault: ListingFault) -> Trouble<'a>
     ensures { result ≡ listing_trouble file.entry fault }
 {

@@ -1,4 +1,4 @@
-//! `map`: the map that registers mean, or that of a board.
+//! `map`: prints the map that registers mean, or that of a board.
 
 ghost use Rattle.std.specs.Prelude.{◌≡◌, ◌↔◌, ◌-◌, ◌^◌, ◌<◌, length, true, false};
 ghost use Rattle.pmp_match.specs.declared.access.Mode as Mode;
@@ -20,14 +20,14 @@ use std::alloc::Global;
 use text_lines::{Line, Sink, Source, push_text, write_whole};
 use trace_answers::CommentNote;
 
-/// Whether a mode is machine mode.
+/// Returns whether a mode is machine mode.
 fn is_machine(mode: Mode) -> bool
     ensures { (result ≡ true) ↔ (mode ≡ Mode.Machine) }
 {
     mode == Mode::Machine
 }
 
-/// Whether machine mode is asked of a boot log, which does not say which entries are locked.
+/// Returns whether the mode is machine mode and the file a boot log, which does not show the locked entries.
 fn is_log_of_machine(mode: Mode, bytes: &[u8]) -> bool
     ensures yes { result ≡ true → (mode ≡ Mode.Machine) × (is_boot_log bytes.now ≡ true) }
     ensures no { result ≡ false → mode ≡ Mode.Machine → is_boot_log bytes.now ≡ false }
@@ -35,14 +35,14 @@ fn is_log_of_machine(mode: Mode, bytes: &[u8]) -> bool
     is_machine(mode) && is_boot_log(bytes)
 }
 
-/// The reason why a boot log has no map for machine mode.
+/// Returns the reason why a boot log has no map for machine mode.
 fn log_line() -> Line {
     let mut line = Line::new();
     push_text(&mut line, b"a boot log, and '--mode m' is for registers");
     line
 }
 
-/// Prints the map of a board's device tree, of which machine mode is not asked.
+/// Prints the map of a board's device tree, except for machine mode.
 fn print_map_of_tree<'a, W: Sink>(
     alloc: Global,
     file: &'a str,
@@ -64,9 +64,9 @@ fn print_map_of_tree<'a, W: Sink>(
     Ok(0)
 }
 
-/// Prints the map of a board's device tree, or the one that registers mean for a mode, and answers the status 0, or 1 where
-/// registers mean none; and beside it what is passed over of their listing. A file whose bytes begin as a flattened device tree
-/// does is read as one. Of a boot log and of a tree machine mode is not asked.
+/// Prints the map of a board's device tree, or the one that registers mean for a mode, and returns the status 0, or 1
+/// if registers mean none, with notes on ignored lines. A file that begins with the magic number of a flattened device
+/// tree is read as one. Boot logs and trees have no map for machine mode.
 #[inline(never)]
 pub(crate) fn do_map<'a, R: Source, W: Sink>(
     alloc: Global,

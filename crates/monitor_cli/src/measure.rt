@@ -1,4 +1,4 @@
-//! `measure`: the digest that the monitor measures of an enclave of a file's bytes.
+//! `measure`: prints the digest that the monitor measures for an enclave with a file's bytes.
 
 ghost use Rattle.std.specs.Prelude.{◌≡◌, ◌+◌, ◌++◌, ◌<◌, ◌≤◌, IfOk, take, true, false};
 ghost use Rattle.measurement.specs.Digests.{blank_page};
@@ -13,10 +13,10 @@ use program_files::{Trouble, bytes_in};
 use std::alloc::{AllocError, Global};
 use text_lines::{Line, Sink, Source, push_decimal, push_hex, push_text, write_whole};
 
-/// How many pages of text and data an enclave may have.
+/// Maximum number of pages of text and data of an enclave.
 const MOST_PAGES: u64 = 1024;
 
-/// The first page of these bytes, with zeros after their end.
+/// Returns the first page of these bytes, padded with zeros.
 fn first_page(rest: &[u8]) -> [u8; 4096]
     ensures { result ≡ take 4096 (rest.now ++ blank_page) }
 {
@@ -29,7 +29,7 @@ fn first_page(rest: &[u8]) -> [u8; 4096]
     page
 }
 
-/// The bytes of the page of that number, with zeros after the end of all.
+/// Returns the page with this number, padded with zeros after the last byte.
 fn page_of(bytes: &[u8], i: usize) -> [u8; 4096]
     requires { i < 1024 }
     ensures { result ≡ page_of bytes.now i }
@@ -40,7 +40,8 @@ fn page_of(bytes: &[u8], i: usize) -> [u8; 4096]
     first_page(&bytes[4096 * i..])
 }
 
-/// The digest of an enclave of that layout, with these bytes and zeros after them in its pages of text and data.
+/// Returns the digest of an enclave with this layout, whose pages of text and data contain these bytes, padded with
+/// zeros.
 fn enclave_digest(layout: &Layout, bytes: &[u8]) -> [u8; 32]
     requires { layout.now.text_pages + layout.now.data_pages ≤ 1024 }
     ensures { result ≡ enclave_digest layout.now bytes.now }
@@ -52,7 +53,7 @@ fn enclave_digest(layout: &Layout, bytes: &[u8]) -> [u8; 32]
     measure.finish()
 }
 
-/// `word K 0x` and the word of that number of a digest, as the monitor's call answers it.
+/// Returns `word K 0x` and the k-th word of a digest, as the monitor's call returns it.
 fn word_line(digest: &[u8; 32], k: usize) -> Line
     requires { k < 4 }
     ensures { result ≡ word_text digest.now k }
@@ -66,7 +67,7 @@ fn word_line(digest: &[u8; 32], k: usize) -> Line
     line
 }
 
-/// A digest as it is printed, and its four words.
+/// Returns the printed digest and its four words.
 fn text_of(alloc: Global, digest: &[u8; 32]) -> Result<Vec<u8>, AllocError>
     ensures { IfOk result (λ text. text.items ≡ digest_text digest.now) }
 {
@@ -81,7 +82,7 @@ fn text_of(alloc: Global, digest: &[u8; 32]) -> Result<Vec<u8>, AllocError>
     Ok(text)
 }
 
-/// What is printed of an enclave of that layout with these bytes.
+/// Returns the text for an enclave with this layout and these bytes.
 fn lines_of(alloc: Global, layout: &Layout, bytes: &[u8]) -> Result<Vec<u8>, AllocError>
     requires { layout.now.text_pages + layout.now.data_pages ≤ 1024 }
     ensures { IfOk result (λ text.
@@ -90,7 +91,7 @@ fn lines_of(alloc: Global, layout: &Layout, bytes: &[u8]) -> Result<Vec<u8>, All
     text_of(alloc, &enclave_digest(layout, bytes))
 }
 
-/// Whether a layout has more pages of text and data than an enclave may have.
+/// Returns whether a layout has more pages of text and data than an enclave may have.
 fn has_too_many(layout: &Layout) -> bool
     ensures many { result ≡ true → 1024 < layout.now.text_pages + layout.now.data_pages }
     ensures few { result ≡ false → layout.now.text_pages + layout.now.data_pages ≤ 1024 }
@@ -98,7 +99,7 @@ fn has_too_many(layout: &Layout) -> bool
     layout.text_pages > MOST_PAGES || layout.data_pages > MOST_PAGES - layout.text_pages
 }
 
-/// Prints the digest of an enclave of that layout, whose text and data are the bytes of a file, and zeros after them.
+/// Prints the digest of an enclave with this layout, whose text and data are the bytes of a file, padded with zeros.
 #[inline(never)]
 pub(crate) fn do_measure<'a, R: Source, W: Sink>(
     alloc: Global,

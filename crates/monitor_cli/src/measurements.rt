@@ -1,4 +1,4 @@
-//! The parts of `run`: the machine that boots on a platform, and the measurements after its report.
+//! Parts of `run`: the machine that boots on a platform, and the measurements after its report.
 
 ghost use Rattle.std.specs.Prelude.{◌≡◌, ◌-◌, ◌^◌, ◌<◌, ◌≤◌, ◌++◌, ◌⊎◌, ℕ, List, Err, IfErr, IfOk, IfSome, None, true};
 ghost use Rattle.byteorder.specs.Endian.{little_bytes};
@@ -23,10 +23,10 @@ use program_files::Trouble;
 use std::alloc::Global;
 use text_lines::{DeviceFault, Sink, write_whole};
 
-/// The most enclaves that are live, and their largest id.
+/// Maximum number of live enclaves, and their largest id.
 const ENCLAVES: u64 = 64;
 
-/// The machine of a platform.
+/// Boots the machine of a platform.
 pub fn boot_machine<'a>(alloc: Global, platform: Platform) -> Result<Machine, Trouble<'a>>
     ensures kept { IfOk result (λ machine. KeepsBanksRight machine) }
     ensures booted { IfOk result (IsBooted platform) }
@@ -40,7 +40,7 @@ pub fn boot_machine<'a>(alloc: Global, platform: Platform) -> Result<Machine, Tr
     }
 }
 
-/// A word of the digest of an enclave, none where it is not live.
+/// Returns a word of the digest of an enclave, or `None` if it is not live.
 #[tactic(auto, using(crate::proofs::Live::not_live))]
 fn word_of(table: &Table, id: u64, k: u64) -> Option<u64>
     requires { k < 4 }
@@ -53,7 +53,7 @@ fn word_of(table: &Table, id: u64, k: u64) -> Option<u64>
     }
 }
 
-/// Four words as bytes, each with its lowest byte first.
+/// Returns four words as little-endian bytes.
 fn bytes_of(first: u64, second: u64, third: u64, fourth: u64) -> [u8; 32]
     ensures { result ≡ little_bytes 8 first ++
         (little_bytes 8 second ++ (little_bytes 8 third ++ little_bytes 8 fourth)) }
@@ -66,7 +66,7 @@ fn bytes_of(first: u64, second: u64, third: u64, fourth: u64) -> [u8; 32]
     bytes
 }
 
-/// The digest of an enclave, none where it is not live.
+/// Returns the digest of an enclave, or `None` if it is not live.
 fn digest_of(table: &Table, id: u64) -> Option<[u8; 32]>
     ensures some { IfSome result (IsDigest table.now.table id) }
     ensures none { result ≡ None → (enclave : Enclave) → ¬ Live table.now.table id enclave }
@@ -78,7 +78,7 @@ fn digest_of(table: &Table, id: u64) -> Option<[u8; 32]>
     Some(bytes_of(first, second, third, fourth))
 }
 
-/// Writes the line of an enclave, where it is live.
+/// Writes the line of an enclave, if it is live.
 fn print_measure<W: Sink>(table: &Table, id: u64, out: &mut W) -> Result<(), DeviceFault>
     ensures { PrintsOne (IsMeasureText table.now.table id)
         (writing W.contents W.failures W.stalls out.old out.new) result }
@@ -91,7 +91,7 @@ fn print_measure<W: Sink>(table: &Table, id: u64, out: &mut W) -> Result<(), Dev
     Ok(())
 }
 
-/// Writes a line for each live enclave, by rising id.
+/// Writes a line for each live enclave, by ascending id.
 pub fn print_measures<W: Sink>(table: &Table, out: &mut W) -> Result<(), DeviceFault>
     ensures written { IfOk result (λ _. (text : List ℕ)
         × AreMeasures table.now.table 64 text
@@ -106,7 +106,7 @@ pub fn print_measures<W: Sink>(table: &Table, out: &mut W) -> Result<(), DeviceF
     Ok(())
 }
 
-/// Prints the measurements of a machine's enclaves where they are asked for.
+/// Prints the measurements of a machine's enclaves if they are requested.
 pub fn measure_where<W: Sink>(
     machine: &Machine,
     measure: bool,

@@ -1,4 +1,4 @@
-//! A task done on its files and on the standard streams.
+//! Performs a task on its files and on the standard streams.
 
 ghost use Rattle.std.specs.Prelude.{◌≡◌, IfOk};
 ghost use Rattle.std.specs.Borrow.{Bor};
@@ -15,19 +15,19 @@ use std::io::{Read, Write};
 use std::rt::Files;
 use text_lines::{Held, HeldSink, Sink};
 
-/// What is lent to a task beside what it writes to: memory, files and standard input.
+/// Resources lent to a task, except its outputs: memory, files and standard input.
 #[derive(Clone, Copy)]
 pub struct Lent<'a, R, S> {
-    /// What memory is taken from.
+    /// The allocator.
     pub alloc: Global,
-    /// Where its files are.
+    /// The files.
     pub files: &'a R,
-    /// What it reads under the word of standard input.
+    /// Standard input, which `-` names.
     pub stdin: S,
 }
 
-/// Hands on the last of the output of a task of that status, and answers the program's status and the stream: 3 where that
-/// was refused with no trouble reported before. The stream has a front of it in any case.
+/// Flushes the rest of the output of a task with this status, and returns the exit status and the stream: 3 if flushing
+/// failed and no failure was reported before. In any case the stream has received a prefix of the output.
 fn close_output<T: Write + Drop, E: Sink>(status: u8, out: HeldSink<T>, err: &mut E) -> (u8, T)
     ensures { IsClosed (held_in out) (T.contents (writer_of out)) (T.contents result.1) status
         result.0 }
@@ -40,7 +40,7 @@ fn close_output<T: Write + Drop, E: Sink>(status: u8, out: HeldSink<T>, err: &mu
     (Trouble::Output.status(), stream)
 }
 
-/// Says why what has that name failed, where it did.
+/// Reports why the file or stream with this name failed, if it did.
 fn say_why<E: Sink>(name: &str, reason: Option<Reason>, err: &mut E) -> bool {
     let Some(reason) = reason else {
         return false;
@@ -49,8 +49,7 @@ fn say_why<E: Sink>(name: &str, reason: Option<Reason>, err: &mut E) -> bool {
     true
 }
 
-/// Says what is wrong with the inputs of a task, which are opened anew. Standard input can't be, so
-/// there is nothing to say of it.
+/// Prints hints for the inputs of a task, which are reopened. Standard input cannot be reopened, so it has no hints.
 #[inline(never)]
 fn hint<'a, R: Files, S: Read + Copy, E: Sink>(
     lent: &Lent<'a, R, S>,
@@ -61,7 +60,7 @@ fn hint<'a, R: Files, S: Read + Copy, E: Sink>(
     tell_hints(lent.alloc, request, &mut first, &mut second, err);
 }
 
-/// Whether there may be something to say of the inputs of a task that ended with that status: it ended for bad input, or it is a
+/// Returns whether there may be hints for a task that ended with this status: it ended because of bad input, or it is a
 /// plan, which may have been printed without configuration words.
 fn may_be_hinted(subcommand: Subcommand, status: u8) -> bool {
     match subcommand {
@@ -70,9 +69,9 @@ fn may_be_hinted(subcommand: Subcommand, status: u8) -> bool {
     }
 }
 
-/// Does what is asked for on the files of its task, and answers the program's status. Each file is opened or made at its first
-/// read or write. Where hints are given, what is wrong with the inputs is said after the trouble, or why a device failed. Nothing
-/// is done where memory is refused before.
+/// Performs a request on the files of its task, and returns the exit status. Each file is opened or created at its
+/// first read or write. If hints are enabled, they follow the message of a failure, or the reason why a device failed.
+/// Nothing is done if an allocation fails before.
 pub fn perform_on_files<'a, R: Files, S: Read + Copy, O: Write + Drop, E: Sink>(
     lent: &Lent<'a, R, S>,
     stdout: O,

@@ -1,4 +1,4 @@
-//! `plan`: the fewest entries of a map, and their certificate.
+//! `plan`: prints the minimal entries of a map, and writes their certificate.
 
 ghost use Rattle.std.specs.Prelude.{◌≡◌, ◌-◌, ◌^◌, ◌<◌, ℕ, Option, length, option_map};
 ghost use Rattle.monitor_cli.specs.CertifiedPlan.{placing, IsWithin};
@@ -17,7 +17,8 @@ use program_files::{Trouble, map_in};
 use std::alloc::Global;
 use text_lines::{DeviceFault, Sink, Source};
 
-/// How many entries a plan may have, where there is a bound: C and assembly are printed of a whole bank alone.
+/// Returns the maximum number of entries of a plan, if there is one: C and assembly are printed only for lists that fit
+/// the hart.
 pub(crate) fn most_entries(
     limit: Limit,
     first: u8,
@@ -38,7 +39,7 @@ pub(crate) fn most_entries(
     }
 }
 
-/// Prints a plan as the options say.
+/// Prints a plan according to the options.
 fn print_as<W: Sink>(
     map: &str,
     options: &Options<'_>,
@@ -63,7 +64,7 @@ fn print_as<W: Sink>(
     }
 }
 
-/// Plans a map, writes the certificate where one is asked for, and prints the plan.
+/// Plans a map, writes the certificate if one is requested, and prints the plan.
 #[inline(never)]
 pub(crate) fn do_plan<'a, R: Source, M, C: CertificateSink<M>, W: Sink>(
     alloc: Global,

@@ -1,4 +1,4 @@
-//! The platform of a platform file.
+//! Reads the platform of a platform file.
 
 ghost use Rattle.std.specs.Prelude.{◌≡◌, ◌-◌, ◌^◌, ◌<◌, ◌⊎◌, IfErr, IfOk};
 ghost use Rattle.platforms.specs.Platform.{PlatformLayout};
@@ -13,7 +13,7 @@ use std::alloc::Global;
 use std::str;
 use text_lines::Source;
 
-/// What a fault of a platform's text is for the program.
+/// Converts a fault of a platform's text.
 fn text_trouble<'a>(file: &'a str, fault: TextFault) -> Trouble<'a>
     ensures { result ≡ text_trouble file.entry fault }
 {
@@ -23,10 +23,10 @@ fn text_trouble<'a>(file: &'a str, fault: TextFault) -> Trouble<'a>
     }
 }
 
-/// How many bytes a platform file may have.
+/// Maximum size of a platform file in bytes.
 pub const PLATFORM_BYTES: usize = 1 << 20;
 
-/// The platform that the bytes of a file are.
+/// Returns the platform in the bytes of a file.
 pub(crate) fn platform_in<'a>(
     alloc: Global,
     file: &'a str,
@@ -47,7 +47,7 @@ pub(crate) fn platform_in<'a>(
     }
 }
 
-/// The platform of a platform file.
+/// Reads the platform of a platform file.
 pub(crate) fn read_platform<'a, R: Source>(
     alloc: Global,
     file: &'a str,

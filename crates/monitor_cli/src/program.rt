@@ -1,4 +1,4 @@
-//! A task, done on the files and streams that are lent for it.
+//! Performs a task on the files and streams that are lent to it.
 
 ghost use Rattle.std.specs.Prelude.{◌≡◌, false};
 ghost use Rattle.text_lines.specs.Writings.{writing};
@@ -26,7 +26,7 @@ use program_files::{Trouble, WholeSink};
 use std::alloc::Global;
 use text_lines::{Direct, LineSink, Sink, Source, write_whole};
 
-/// Reports the trouble of a task on standard error, or what it says beside its status, and answers that.
+/// Prints the failure of a task or its notes on standard error, and returns the exit status.
 fn report<E: Sink>(done: Result<Answered, Trouble<'_>>, err: &mut E) -> u8
     ensures { result ≡ status_of (status_in done.entry) }
 {
@@ -42,7 +42,7 @@ fn report<E: Sink>(done: Result<Answered, Trouble<'_>>, err: &mut E) -> u8
     }
 }
 
-/// Does a task's command.
+/// Runs the command of a task.
 fn run_task<'a, R: Source, M, C: CertificateSink<M>, L, W: LineSink<L>>(
     alloc: Global,
     request: &Request<'a>,
@@ -89,9 +89,9 @@ fn run_task<'a, R: Source, M, C: CertificateSink<M>, L, W: LineSink<L>>(
     }
 }
 
-/// Does a task with the options of a command line that names none: reads its inputs, in their order, from `first` and `second`,
-/// writes a certificate straight to `cert`, what it prints to `out` and its one line of trouble, or what it says beside its
-/// status, to `err`, and answers that status: 0 done, 1 refused by the checker, by `audit` or by `lint`, 2 bad input, 3 a device failed, 4 memory. The
+/// Performs a task with default options: reads its inputs, in order, from `first` and `second`, writes a certificate
+/// directly to `cert`, its output to `out` and its one-line failure, or its notes, to `err`, and returns the exit
+/// status: 0 done, 1 refused by the checker, by `audit` or by `lint`, 2 bad input, 3 a device failed, 4 memory. The
 /// status does not depend on `err`.
 pub fn perform<R: Source, C: Sink, W: Sink, E: Sink>(
     alloc: Global,
@@ -112,8 +112,8 @@ pub fn perform<R: Source, C: Sink, W: Sink, E: Sink>(
     report(done, err)
 }
 
-/// Does a task as [`perform`] does, with the options of a request. A certificate is put in the place of `cert` whole, or not
-/// at all.
+/// Performs a task as [`perform`] does, with the options of a request. A certificate is put in the place of `cert`
+/// whole, or not at all.
 pub fn perform_request<R: Source, C: WholeSink, L, W: LineSink<L>, E: Sink>(
     alloc: Global,
     request: &Request<'_>,

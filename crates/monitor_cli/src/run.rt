@@ -1,4 +1,4 @@
-//! `run`: a trace on a machine that boots on a platform.
+//! `run`: runs a trace on a machine that boots on a platform.
 
 ghost use Rattle.std.specs.Prelude.{◌-◌, ◌^◌, ◌<◌};
 ghost use Rattle.text_lines.specs.Writings.{writing};
@@ -21,7 +21,7 @@ use std::alloc::Global;
 use text_lines::{LineSink, Source};
 use trace_answers::{Compared, Ran, compare_lines, explain_run, print_summary};
 
-/// Runs a trace on a machine, and prints the measurements where they are asked for.
+/// Runs a trace on a machine, and prints the measurements if they are requested.
 #[inline(never)]
 fn run_plainly<'a, R: Source, L, W: LineSink<L>>(
     machine: &mut Machine,
@@ -40,8 +40,8 @@ fn run_plainly<'a, R: Source, L, W: LineSink<L>>(
     Ok(0)
 }
 
-/// Runs a trace on a machine, says after each answer what happened, prints the measurements where they are asked for, and last
-/// the summary.
+/// Runs a trace on a machine, explains after each answer what happened, prints the measurements if they are requested,
+/// and finally the summary.
 #[inline(never)]
 fn run_explaining<'a, R: Source, L, W: LineSink<L>>(
     machine: Machine,
@@ -66,7 +66,7 @@ fn run_explaining<'a, R: Source, L, W: LineSink<L>>(
     Ok(0)
 }
 
-/// Runs a trace on a machine, compares its answers, and prints the measurements where they are asked for.
+/// Runs a trace on a machine, compares its answers, and prints the measurements if they are requested.
 #[inline(never)]
 fn run_expecting<'a, R: Source, L, W: LineSink<L>>(
     machine: Machine,
@@ -92,7 +92,7 @@ fn run_expecting<'a, R: Source, L, W: LineSink<L>>(
     Ok(noted(status, &ArrayVec::new(), &note))
 }
 
-/// Runs a trace on a machine, and writes of the answers what is asked for.
+/// Runs a trace on a machine, with the requested kind of answers.
 fn run_on<'a, R: Source, L, W: LineSink<L>>(
     machine: Machine,
     answers: Answers,
@@ -118,7 +118,7 @@ fn run_on<'a, R: Source, L, W: LineSink<L>>(
     }
 }
 
-/// Boots a platform, runs a trace on it, and writes of the answers what is asked for.
+/// Boots a platform, and runs a trace on it, with the requested kind of answers.
 pub(crate) fn do_run<'a, R: Source, L, W: LineSink<L>>(
     alloc: Global,
     answers: Answers,

@@ -1,4 +1,4 @@
-//! `show`: a map, or what registers mean, as a table.
+//! `show`: prints a map, or the meaning of registers, as a table.
 
 ghost use Rattle.std.specs.Prelude.{◌-◌, ◌^◌, ◌<◌, IfOk, length};
 ghost use Rattle.text_lines.specs.Writings.{writing};
@@ -18,7 +18,7 @@ use register_audit::print_registers;
 use std::alloc::Global;
 use text_lines::{Sink, Source, write_whole};
 
-/// The table of a map as text, and after it what each of its lines costs, where that is asked for.
+/// Returns the table of a map as text, followed by the cost of each line, if requested.
 fn text_of(
     alloc: Global,
     costs: bool,
@@ -37,7 +37,7 @@ fn text_of(
     Ok(text)
 }
 
-/// The table of a map in the format that is asked for.
+/// Returns the table of a map in the requested format.
 fn shown_as(
     alloc: Global,
     options: &Options<'_>,
@@ -88,7 +88,7 @@ fn show_map<'a, R: Source, W: Sink>(
     Ok(true)
 }
 
-/// Prints what registers give a mode as such a table, and answers whether they mean anything.
+/// Prints the permissions that registers grant a mode as such a table, and returns whether they mean anything.
 #[inline(never)]
 fn show_registers<'a, R: Source, W: Sink>(
     alloc: Global,
@@ -108,7 +108,7 @@ fn show_registers<'a, R: Source, W: Sink>(
     }
 }
 
-/// Prints a map, or what registers mean, as a table, and answers whether there is one.
+/// Prints a map, or the meaning of registers, as a table, and returns whether there is one.
 pub(crate) fn do_show<'a, R: Source, W: Sink>(
     alloc: Global,
     file: &'a str,

@@ -1,5 +1,5 @@
-//! Tasks whose files get in each other's way: a certificate that would take the place of what its task reads or prints, and
-//! standard input that would be read twice.
+//! Detects tasks whose files conflict: a certificate that would replace an input or output of its task, and standard
+//! input that would be read twice.
 
 ghost use Rattle.std.specs.Prelude.{◌≡◌, ◌≢◌, ◌⊎◌, IfErr, IfSome, IsErr, IsOk, None};
 ghost use Rattle.std.specs.Process.{exit_status};
@@ -11,7 +11,7 @@ use command_line::{Fault, Task, cert_of, outline_of, reads_twice};
 use program_files::{is_same_file, is_same_plain_file};
 use std::process::ExitCode;
 
-/// Why a certificate is not written under that name; the list, or what is read, would be lost.
+/// Returns the reason why a certificate is not written under this name, because the list or the input would be lost.
 fn why_not_placed(rt: &HostRuntime, cert: &str) -> Option<&'static str>
     ensures { cert.now ≡ input_word → result ≢ None }
 {
@@ -27,8 +27,8 @@ fn why_not_placed(rt: &HostRuntime, cert: &str) -> Option<&'static str>
     None
 }
 
-/// Refuses a task whose certificate would take the place of its map, under another name of the same file, or of the file at
-/// standard input or output.
+/// Refuses a task whose certificate would replace its map, under another name of the same file, or the file at standard
+/// input or output.
 fn refuse_files(rt: &HostRuntime, task: &Task<'_>) -> Option<ExitCode>
     ensures status { IfSome result (λ code. exit_status code ≡ 2 ⊎ exit_status code ≡ 4) }
     ensures word { IsToStandardOutput (cert_of task.now) → result ≢ None }
@@ -47,8 +47,8 @@ fn refuse_files(rt: &HostRuntime, task: &Task<'_>) -> Option<ExitCode>
     None
 }
 
-/// Refuses a task that would read standard input twice, or write its certificate over what it reads or prints: why is reported,
-/// and the status is answered. Any other task may be done.
+/// Refuses a task that would read standard input twice, or write its certificate over an input or output: reports the
+/// reason and returns the exit status. Any other task may be performed.
 pub fn may_be_done(rt: &HostRuntime, task: &Task<'_>) -> Result<(), ExitCode>
     ensures twice { ReadsTwice task.now → IsErr result }
     ensures printed { IsToStandardOutput (cert_of task.now) → IsErr result }

@@ -1,4 +1,4 @@
-//! What reads at the places of a task.
+//! The inputs of a task.
 
 ghost use Rattle.std.specs.Prelude.{◌≡◌};
 ghost use Rattle.monitor_cli.specs.TaskInputs.{reader_in, AreInputs, IsAt, IsFresh};
@@ -10,10 +10,10 @@ use std::io::Read;
 use std::rt::Files;
 use text_lines::Counted;
 
-/// What a task reads: its failures are counted, and why the last one came is kept.
+/// An input of a task, which counts failures and records the reason of the last one.
 pub type Input<'a, R, S> = Counted<Explained<InputToRead<'a, R, S>>>;
 
-/// What counts the failures of an input, and keeps why the last one came.
+/// Wraps an input to count its failures and record the reason of the last one.
 fn reading<'a, R: Files, S: Read>(input: InputToRead<'a, R, S>) -> Input<'a, R, S>
     ensures input { reader_in result ≡ input.entry }
     ensures fresh { IsFresh result }
@@ -21,7 +21,8 @@ fn reading<'a, R: Files, S: Read>(input: InputToRead<'a, R, S>) -> Input<'a, R, 
     Counted::new(Explained::new(input))
 }
 
-/// What reads at that place, which is opened at the first read; where there is none, a name that no file has.
+/// Returns the input at a place, which is opened at the first read. If the task has no such input, its name is that of
+/// no file.
 fn input_at<'a, R: Files, S: Read + Copy>(
     files: &'a R,
     stdin: S,
@@ -37,7 +38,7 @@ fn input_at<'a, R: Files, S: Read + Copy>(
     }
 }
 
-/// What reads at the places of a task: what it reads first, and after that. Each is opened at its first read.
+/// Returns the first and the second input of a task. Each is opened at its first read.
 pub fn inputs<'a, R: Files, S: Read + Copy>(
     files: &'a R,
     stdin: S,
@@ -51,7 +52,8 @@ pub fn inputs<'a, R: Files, S: Read + Copy>(
     )
 }
 
-/// What reads a second time at that place, where a plain file is there. A pipe is not there again, and might never come.
+/// Returns the input at a place for re-reading, if it is a plain file. A pipe cannot be re-read, and opening it might
+/// block.
 fn input_again<'a, R: Files, S: Read + Copy>(
     files: &'a R,
     stdin: S,
@@ -66,7 +68,7 @@ fn input_again<'a, R: Files, S: Read + Copy>(
     }
 }
 
-/// What reads a second time at the places of a task. Standard input is not there again.
+/// Returns the inputs of a task for re-reading. Standard input cannot be re-read.
 pub fn inputs_again<'a, R: Files, S: Read + Copy>(
     files: &'a R,
     stdin: S,

@@ -1,4 +1,4 @@
-//! The end of a program that came to trouble.
+//! The end of a program after a failure.
 
 ghost use Rattle.std.specs.Prelude.{◌≡◌, MatchResult};
 ghost use Rattle.std.specs.Process.{exit_status};
@@ -11,14 +11,14 @@ use std::io::Stderr;
 use std::process::ExitCode;
 use text_lines::Counted;
 
-/// Standard error, where a write that a signal interrupted is tried again.
+/// Returns standard error, which retries a write that a signal interrupted.
 pub fn standard_error(rt: &HostRuntime) -> Counted<RetryInterrupted<Stderr>>
     ensures { failures_of result ≡ 0 }
 {
     Counted::new(RetryInterrupted::new(rt.stderr()))
 }
 
-/// Says what went wrong, and with which status the program ends.
+/// Reports a failure, and returns the exit status.
 pub(crate) fn exit_with_trouble(rt: &HostRuntime, trouble: Trouble<'_>) -> ExitCode
     ensures { exit_status result ≡ trouble_status trouble.entry }
 {
@@ -27,7 +27,7 @@ pub(crate) fn exit_with_trouble(rt: &HostRuntime, trouble: Trouble<'_>) -> ExitC
     ExitCode::from(trouble.status())
 }
 
-/// The end of a task that was done, with its status, or for which memory was refused, which is reported.
+/// Returns the exit status of a finished task, or reports a failed allocation.
 pub fn exit_with_status(rt: &HostRuntime, status: Result<u8, AllocError>) -> ExitCode
     ensures { MatchResult status (λ status. exit_status result ≡ status)
         (λ _. exit_status result ≡ 4) }

@@ -9,11 +9,11 @@ use clap::Error;
 use command_line::{Task, request_of_words};
 use std::alloc::Global;
 
-/// The task that the words of a command line name; the first word is the program's own. Nothing is said of its options:
-/// [`request_of_words`] answers both.
+/// Returns the task that the words of a command line name; the first word is the program's name. Options are ignored:
+/// [`request_of_words`] returns both.
 ///
-/// An error is a fault of the command line, out of memory, or a wish for help or the version: its `kind`
-/// says which, and its `Display` is the text for the user.
+/// The error is a fault of the command line, a failed allocation, or a request for help or the version: its `kind`
+/// distinguishes these, and its `Display` is the text for the user.
 pub fn command_of<'a>(alloc: Global, words: &'a [&'a str]) -> Result<Task<'a>, Error>
     ensures task { IfOk result (IsTask (subcommand_of program_app
         (map (λ s. s.now) words.entry.now))) }

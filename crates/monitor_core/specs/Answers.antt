@@ -1,4 +1,4 @@
--- What a call is answered with.
+-- Numbers in the answers to calls.
 use Rattle.std.specs.Prelude.{ℕ, ◌-◌, ℤ, negsuc}
 use Rattle.sbi_decode.specs.declared.world.World.{World}
 use Rattle.sbi_decode.specs.declared.world.World.TheVariants.{Host, Enclave as InEnclave}
@@ -8,6 +8,6 @@ abbrev pub world_number : World → ℕ
 world_number Host = 0
 world_number (InEnclave id) = id
 
--- n below zero
+-- the negated number
 abbrev pub below_zero : ℕ → ℤ
 below_zero n = negsuc (n - 1)

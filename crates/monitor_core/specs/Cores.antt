@@ -1,4 +1,4 @@
--- The core of the monitor as its caller sees it, who keeps the register sets.
+-- The core of the monitor as seen by its caller, which stores the register sets.
 use Rattle.std.specs.Prelude.{ℕ, Bool, List}
 use Rattle.pmp_encoding.specs.declared.region.Entry.{Entry}
 use Rattle.enclave_table.specs.Tables.{Kept, list_at}
@@ -10,7 +10,7 @@ use Rattle.monitor_core.specs.declared.steps.Core.{Core}
 use Rattle.monitor_core.specs.Parts.{mark_in, world_in}
 use Rattle.monitor_core.specs.States.{MonitorState}
 
--- its table of enclaves, with the list of entries that is kept for each view
+-- the table of enclaves, with the stored list of entries of each view
 unfoldable pub core_kept : Core → Kept
 core_kept core = core.parts.table
 
@@ -18,11 +18,11 @@ core_kept core = core.parts.table
 unfoldable pub worlds_of : Core → ℕ → World
 worlds_of core = world_in core.parts.worlds
 
--- which harts are marked
+-- the hart is marked
 unfoldable pub core_marks : Core → ℕ → Bool
 core_marks core = mark_in core.parts.marked
 
--- the state of the monitor where these are the register sets
+-- the state of the monitor with these register sets
 abbrev pub core_state : Core → (Runner → RegisterFile) → MonitorState
 core_state core sets = record {
   table = (core_kept core).table;
@@ -31,7 +31,7 @@ core_state core sets = record {
   marked = core_marks core;
 }
 
--- the list that is kept for a world
+-- the stored list of a world
 abbrev pub list_of : Kept → World → List Entry
 list_of kept Host = kept.host_list
 list_of kept (InEnclave id) = list_at kept id

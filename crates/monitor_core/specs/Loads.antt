@@ -1,4 +1,4 @@
--- What is loaded on the harts, where the caller of the monitor does what it is asked.
+-- The entries loaded on the harts if the caller of the monitor follows its requests.
 use Rattle.std.specs.Prelude.{◌≡◌, ◌≢◌, ℕ, ◌<◌, Bool, true, false, List}
 use Rattle.pmp_encoding.specs.declared.region.Entry.{Entry}
 use Rattle.pmp_match.specs.Meaning.{IsFewest}
@@ -7,20 +7,19 @@ use Rattle.monitor_core.specs.Frames.{KeepsOthers, LoadsAnew}
 use Rattle.monitor_core.specs.States.{MonitorState}
 use Rattle.enclave_table.specs.Views.{current_view}
 
--- on each hart that is not marked a list is loaded that means the view of its world, and no list
--- that does so is shorter
+-- each hart that is not marked has loaded a shortest list that means the view of its world
 abbrev pub AreLoaded : MonitorState → (ℕ → List Entry) → Type 0
 AreLoaded s loaded = (hart : ℕ) → hart < s.table.layout.harts → s.marked hart ≡ false
     → IsFewest (current_view s.table (s.worlds hart)) (loaded hart)
 
--- these entries are loaded on a hart where that is asked for, and nothing else is loaded anywhere
+-- these entries are loaded on the hart if requested, and nothing else changes on any hart
 pub record LoadsAsTold (load : Bool) (hart : ℕ) (entries : List Entry) (before after : ℕ
     → List Entry) : Type 0 where
   pub told : load ≡ true → after hart ≡ entries
   pub kept : load ≡ false → after hart ≡ before hart
   pub others : (other : ℕ) → other ≢ hart → after other ≡ before other
 
--- so it stays over a call or an interrupt on a hart, and over the waking of one
+-- calls and interrupts on a hart preserve this, and so does waking a hart
 pub record KeepsLoaded : Type 0 where
   pub served :
       (old new : MonitorState) (hart : ℕ) (load : Bool) (entries : List Entry) (before after : ℕ

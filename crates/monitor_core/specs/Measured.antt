@@ -1,4 +1,4 @@
--- Enclaves that were made, and whose pages are to be measured.
+-- Created enclaves, whose pages must be measured.
 use Rattle.std.specs.Prelude.{◌≡◌, Option, None, Some, pos}
 use Rattle.measurement.specs.Requests.{parts_of}
 use Rattle.measurement.specs.declared.request.Create.{Create}
@@ -6,7 +6,7 @@ use Rattle.monitor_core.specs.declared.answer.Answer.{Answer}
 use Rattle.sbi_decode.specs.declared.calls.Call.{Call}
 use Rattle.sbi_decode.specs.declared.calls.Call.TheVariants as calls
 
--- what a call asks for, where it is a creation
+-- the parameters of a call, if it is a creation
 abbrev pub asked_in : Option Call → Option Create
 asked_in (Some (calls.Create base text_pages data_pages shared_base shared_count entry_offset)) =
     Some (record {
@@ -19,7 +19,7 @@ asked_in (Some (calls.Create base text_pages data_pages shared_base shared_count
     })
 asked_in _ = None
 
--- a call made an enclave of these parts, as they are kept: it is a creation, and was done
+-- the call created an enclave with these stored parts: it was a creation and succeeded
 abbrev pub IsMade : Option Create → Answer → Create → Type 0
 IsMade None answer parts = ⊥
 IsMade (Some asked) answer parts = (parts ≡ parts_of asked) × (answer.status ≡ pos 0)

@@ -10,9 +10,9 @@ use Rattle.sbi_decode.specs.declared.world.World.TheVariants.{Host}
 use Rattle.sbi_decode.specs.Registers.{RegisterFile, zeros}
 use Rattle.sbi_decode.specs.Runners.{Runner, runner_of}
 
--- the enclaves, the world that runs on each hart, the registers of each host and enclave, and the
--- harts that are marked: each of these is to load the host's entries before it goes on. A hart that
--- there is not stays in the host's world, its registers zero, and is never marked
+-- the enclaves, the world on each hart, the registers of each host and enclave, and the marked
+-- harts, which must load the host's entries before they continue. A hart that does not exist stays
+-- in the host's world with zero registers, and is never marked
 pub record MonitorState : Type 0 where
   pub table : EnclaveTable
   pub worlds : ℕ → World
@@ -29,10 +29,10 @@ opening_monitor layout = record {
   marked = λ hart. false;
 }
 
--- the view of the world that runs on a hart
+-- the view of the world on a hart
 abbrev pub view_on : MonitorState → ℕ → ℕ → Perm
 view_on s hart page = view_of s.table (s.worlds hart) page
 
--- the registers of who runs on a hart
+-- the registers of the world on a hart
 abbrev pub running_registers : MonitorState → ℕ → RegisterFile
 running_registers s hart = s.registers (runner_of hart (s.worlds hart))

@@ -1,4 +1,4 @@
--- What a call or an interrupt on a hart may be answered, and the state that it leaves.
+-- The possible answers to a call or an interrupt on a hart, and the resulting states.
 use Rattle.std.specs.Prelude.{◌≡◌, ◌⊎◌, ℕ, ◌-◌, ◌^◌, pos, List, Option, None, Some}
 use Rattle.enclave_table.specs.Enclaves.{EnclaveTable, Live, with_enclave}
 use Rattle.platforms.specs.CheckLists.{FailsFirst}
@@ -31,34 +31,34 @@ use Rattle.enclave_table.specs.Fewest.{NeedsMore}
 use Rattle.enclave_table.specs.Views.{host_view}
 use Rattle.sbi_decode.specs.Registers.{zeros}
 
--- a call is done: this is the state after it, it is answered with 0 and a value, and these pages
--- are to be made zero
+-- a successful call: the state after it, its answer of 0 and a value, and the pages to be zeroed
 pub record Done (that : MonitorState) (value : ℕ) (pages : Option PageRange) (answer : Answer)
     (zero : Option PageRange) (new : MonitorState) : Type 0 where
   pub state : new ≡ that
   pub told : answer ≡ record { status = pos 0; value = value }
   pub zeroes : zero ≡ pages
 
--- a call is refused with a number below zero: nothing changes but a0 and a1
+-- a refused call, with the negated number as its status: only a0 and a1 change
 pub record Refuses (number : ℕ) (s : MonitorState) (hart : ℕ) (answer : Answer)
     (zero : Option PageRange) (new : MonitorState) : Type 0 where
   pub state : new ≡ answering s hart (2 ^ 64 - number) 0
   pub told : answer ≡ record { status = below_zero number; value = 0 }
   pub zeroes : zero ≡ None
 
--- a call is refused, and this is why
+-- a call refused for this reason
 abbrev pub Refused : (Refusal → Type 0) → MonitorState → ℕ → Answer → Option PageRange
     → MonitorState → Type 0
 Refused Why s hart answer zero new = (refusal : Refusal) × Why refusal
     × Refuses (refusal_number refusal) s hart answer zero new
 
--- the call that the registers name is done or refused, and an unknown one is refused. Create: one
--- more enclave, whose digest is the one that its parts have, and the other harts are to load the
--- host's new entries. Destroy: one fewer, its private pages are to be made zero, its registers are
--- zero, and the other harts as for create. Run: the enclave goes on at its entry and with its id,
--- and the host's registers wait. Resume: it goes on as it was stopped. Stop: the enclave will go on
--- with 0 in a0 and a1, and the host goes on with 1 and 0 there. Exit: the enclave's registers are
--- zero, and the host goes on with 0 and the value. Measure: a word of the digest
+-- the call that the registers name succeeds or is refused, and an unknown one is refused. Create:
+-- adds an enclave with the digest of its parts, and the other harts must load the host's new
+-- entries. Destroy: removes an enclave, whose private pages must be zeroed; its registers become
+-- zero, and the other harts must reload as for create. Run: enters the enclave at its entry point
+-- with its id in a0, and the host's registers are saved. Resume: continues the enclave as it was
+-- stopped. Stop: the enclave will continue with 0 in a0 and a1, and the host continues with 1 and
+-- 0. Exit: the enclave's registers become zero, and the host continues with 0 and the value.
+-- Measure: returns a word of the digest
 abbrev pub DoesCall : Option Call → (Create → List ℕ) → MonitorState → ℕ → Answer → Option PageRange
     → MonitorState → Type 0
 DoesCall None digests s hart answer zero new = Refuses 2 s hart answer zero new
@@ -113,14 +113,14 @@ DoesCall (Some (calls.Measure id k)) digests s hart answer zero new =
     × Done (answering s hart 0 word) word None answer zero new)
     ⊎ Refused (FailsFirst (word_checks s.table id k)) s hart answer zero new
 
--- an interrupt changes nothing in the host's world, and stops an enclave, its registers as they are
+-- an interrupt changes nothing in the host's world, and stops an enclave with its current registers
 abbrev pub Interrupts : World → MonitorState → ℕ → MonitorState → Type 0
 Interrupts Host s hart new = new ≡ s
 Interrupts (InEnclave id) s hart new = (table : EnclaveTable)
     × Leaves s.table (InEnclave id) Stopped id table
     × (new ≡ back_to_host (record s { table = table }) hart 1 0)
 
--- run and resume by one: what an enclave goes on with, and what is done
+-- run and resume as one definition: the registers of the entered enclave, and the call
 abbrev pub entering_with : Entering → MonitorState → ℕ → Enclave → MonitorState
 entering_with ways.Run s id e = with_registers s (EnclaveOf id) (first_registers id e.parts)
 entering_with ways.Resume s id e = s

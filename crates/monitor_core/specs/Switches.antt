@@ -1,4 +1,4 @@
--- What becomes of registers over an event on a hart.
+-- The changes of registers by an event on a hart.
 use Rattle.std.specs.Prelude.{◌≡◌, ◌≢◌, ◌⊎◌, ℕ, None}
 use Rattle.enclave_table.specs.Enclaves.{Live, enclave_at}
 use Rattle.enclave_table.specs.declared.enclave.Enclave.{Enclave}
@@ -9,33 +9,35 @@ use Rattle.sbi_decode.specs.Runners.{Runner, HostOf, EnclaveOf, runner_of}
 use Rattle.monitor_core.specs.Changes.{first_registers}
 use Rattle.monitor_core.specs.States.{MonitorState}
 
--- who runs on a hart
+-- the world on a hart, as an owner of registers
 abbrev pub runner_on : MonitorState → ℕ → Runner
 runner_on s hart = runner_of hart (s.worlds hart)
 
--- an enclave was live, and is no more
+-- the enclave was live and is no longer
 abbrev pub IsGone : MonitorState → MonitorState → ℕ → Type 0
 IsGone old new id = (e : Enclave) × Live old.table id e × (enclave_at new.table.enclaves id ≡ None)
 
--- an enclave has exited, and had not before
+-- the enclave has exited, and had not before
 abbrev pub HasExited : MonitorState → MonitorState → ℕ → Type 0
 HasExited old new id = (e now : Enclave) × Live old.table id e × (e.state ≢ Exited)
     × Live new.table id now × (now.state ≡ Exited)
 
--- the host goes on with the registers that it had when it was left, but for a0 and a1: 1 and 0
--- after a stop, 0 and a value after an exit
+-- the host continues with the registers that it had when it was left, except a0 and a1, which are 1
+-- and 0 after a stop, and 0 and a value after an exit
 abbrev pub ComesBack : RegisterFile → RegisterFile → Type 0
 ComesBack kept now = (now ≡ with_x (with_x kept 10 1) 11 0)
     ⊎ ((value : ℕ) × (now ≡ with_x (with_x kept 10 0) 11 value))
 
--- an enclave goes on for the first time, or with the registers that it had when it was stopped
+-- an enclave starts for the first time, or continues with the registers that it had when it was
+-- stopped
 abbrev pub GoesIn : ℕ → Enclave → RegisterFile → RegisterFile → Type 0
 GoesIn id e kept now = ((e.state ≡ Fresh) × (now ≡ first_registers id e.parts))
     ⊎ ((e.state ≡ Stopped) × (now ≡ kept))
 
--- the registers of an enclave that is no more, or has exited, are zero. Those of each other stay
--- that runs on the hart neither before nor after. Where the hart goes to the host, the host comes
--- back; where it goes to an enclave, the enclave goes in
+-- the registers of an enclave that is destroyed or has exited become zero. Those of every other
+-- runner that is not on the hart before or after stay the same. If the hart switches to the host,
+-- the host continues as in `ComesBack`; if it switches to an enclave, that starts or continues as
+-- in `GoesIn`
 pub record KeepsRegisters (old : MonitorState) (hart : ℕ) (new : MonitorState) : Type 0 where
   pub gone : (id : ℕ) → IsGone old new id → new.registers (EnclaveOf id) ≡ zeros
   pub exited : (id : ℕ) → HasExited old new id → new.registers (EnclaveOf id) ≡ zeros

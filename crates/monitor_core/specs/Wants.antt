@@ -1,4 +1,4 @@
--- When a creation or a destruction is refused for want of entries.
+-- The conditions for refusing a creation or a destruction with `NoEntries`.
 use Rattle.std.specs.Prelude.{◌⊎◌, Option, None, Some, cond}
 use Rattle.pmp_encoding.specs.declared.perm.Perm.TheVariants.{NoAccess}
 use Rattle.measurement.specs.Requests.{parts_of, is_private}
@@ -13,9 +13,9 @@ use Rattle.sbi_decode.specs.declared.world.World.{World}
 use Rattle.sbi_decode.specs.declared.calls.Call.{Call}
 use Rattle.sbi_decode.specs.declared.calls.Call.TheVariants as calls
 
--- what creations and destructions ask: that each check passes but for entries and memory; and when
--- a view after it would need more entries than there are: the host's, to which the private pages of
--- a new enclave are closed, or that of the new enclave
+-- the conditions of a creation or a destruction: every check passes except those on entries and
+-- memory; and a resulting view would need more entries than a hart has, either the host's, which
+-- excludes the private pages of a new enclave, or that of the new enclave
 abbrev pub wants_of : Option Call → EnclaveTable → World → Type 0 × Type 0
 wants_of (Some (calls.Create base text_pages data_pages shared_base shared_count entry_offset))
     table world =
@@ -37,9 +37,9 @@ wants_of (Some (calls.Destroy id)) table world = (
 )
 wants_of _ table world = (⊥, ⊥)
 
--- a call is refused for want of entries only where it is one of these, and a view after it would
--- need more entries than there are; where one would, it is refused, for want of entries or out of
--- memory. Nothing else is refused so
+-- `NoEntries` is returned only for these calls, and only if a resulting view would need more
+-- entries than a hart has. If one would, the call fails with `NoEntries` or `NoMemory`. No other
+-- call fails with either
 pub record IsRefusedByNeed (call : Option Call) (table : EnclaveTable) (world : World)
     (IsAnswered : Refusal → Type 0) : Type 0 where
   pub entries : IsAnswered NoEntries → (wants_of call table world).0 × (wants_of call table world).1

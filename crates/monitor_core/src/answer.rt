@@ -1,4 +1,4 @@
-//! What a call is answered with, and what its caller is to do before the hart goes on.
+//! The answer to a call, and the tasks of the caller before the hart continues.
 
 ghost use Rattle.std.specs.Prelude.{◌≡◌, ◌≤◌, ◌-◌, ◌^◌, IfNone, IfSome, pos};
 ghost use Rattle.sbi_decode.specs.Calls.{call_of};
@@ -10,35 +10,35 @@ use measurement::Create;
 use pmp_encoding::PageRange;
 use sbi_decode::{Call, Registers, decode};
 
-/// The answer of a call, which its caller finds in a0 and a1 when it goes on.
+/// The answer to a call, which its caller finds in a0 and a1 when it continues.
 #[derive(Clone, Copy)]
 pub struct Answer {
-    /// 0 where the call was done; below zero where it was refused.
+    /// 0 on success; negative if the call was refused.
     pub status: i64,
-    /// What a call that was done gives back.
+    /// The value that a successful call returns.
     pub value: u64,
 }
 
-/// How a call was served. The registers that go on are the monitor's.
+/// The result of serving a call. The caller's registers after it are the monitor's.
 #[derive(Clone, Copy)]
 pub struct Served {
     pub answer: Answer,
-    /// The pages whose every byte is to be made zero before any hart goes on.
+    /// The pages to be zeroed before any hart continues.
     pub zero: Option<PageRange>,
-    /// Whether the hart's entries are to be loaded anew before it goes on.
+    /// Whether the hart's entries must be reloaded before it continues.
     pub load: bool,
 }
 
 impl Answer {
-    /// That of a call that is done.
+    /// Returns the answer to a successful call.
     pub(crate) fn done(value: u64) -> Answer
         ensures { result ≡ record { status = pos 0; value = value } }
     {
         Answer { status: 0, value }
     }
 
-    /// The parts of the enclave that a call made, as they are kept, by the registers that it was called with: its private pages
-    /// are to be measured. Of any other call, and of one that was refused, there are none.
+    /// Returns the stored parts of the enclave that a call created, given the registers of the call: its private pages
+    /// must be measured. Returns `None` for any other call, and for a refused one.
     pub fn made(&self, registers: &Registers) -> Option<Create>
         ensures some { IfSome result (λ parts.
             IsMade (asked_in (call_of registers.now)) self.now parts) }
@@ -72,7 +72,7 @@ impl Answer {
         Some(asked.normalized())
     }
 
-    /// That of a call that is refused with a number below zero.
+    /// Returns the answer to a refused call, given its negated status.
     pub(crate) fn refused(number: u64) -> Answer
         requires low { 1 ≤ number }
         requires high { number ≤ 112 }
@@ -85,7 +85,7 @@ impl Answer {
     }
 }
 
-/// That far below zero, as a status.
+/// Returns the negated number as a status.
 fn below_zero(number: u64) -> i64
     requires low { 1 ≤ number }
     requires high { number ≤ 112 }
@@ -94,7 +94,7 @@ fn below_zero(number: u64) -> i64
     -1 - (number - 1) as i64
 }
 
-/// That far below zero, as a word.
+/// Returns the negated number as a word.
 pub(crate) fn word_below_zero(number: u64) -> u64
     requires low { 1 ≤ number }
     requires high { number ≤ 112 }

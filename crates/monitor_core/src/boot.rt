@@ -1,4 +1,4 @@
-//! The core as it is at boot.
+//! The core at boot.
 
 use crate::parts::MonitorParts;
 use enclave_table::{Table, World};
@@ -13,7 +13,7 @@ impl MonitorParts {
     ghost use Rattle.monitor_core.specs.Parts.{HoldsTogether, bare};
     ghost use Rattle.monitor_core.specs.States.{opening_monitor};
 
-    /// The parts of a platform at boot: no enclave, each hart in the host's world, no hart marked.
+    /// Returns the parts of a platform at boot: no enclave, each hart in the host's world, no hart marked.
     pub(crate) fn boot(alloc: Global, platform: Platform) -> Result<MonitorParts, BootFault>
         ensures state { IfOk result (λ p. bare p ≡ opening_monitor platform) }
         ensures whole { IfOk result (λ p. HoldsTogether p.table p.worlds p.marked) }

@@ -6,7 +6,7 @@ ghost use Rattle.sbi_decode.specs.Registers.{with_x, zeros};
 
 use sbi_decode::Registers;
 
-/// Goes past the instruction that made a call.
+/// Advances the pc past the instruction that made a call.
 pub(crate) fn go_past_call(registers: &mut Registers)
     ensures { registers.new ≡ past_call registers.old }
 {
@@ -14,7 +14,7 @@ pub(crate) fn go_past_call(registers: &mut Registers)
     registers.set_pc(pc);
 }
 
-/// Puts an answer into a0 and a1.
+/// Writes an answer to a0 and a1.
 pub(crate) fn put_answer(registers: &mut Registers, first: u64, second: u64)
     ensures { registers.new ≡ with_x (with_x registers.old 10 first) 11 second }
 {
@@ -22,7 +22,7 @@ pub(crate) fn put_answer(registers: &mut Registers, first: u64, second: u64)
     registers.set(11, second);
 }
 
-/// The registers of a first entry.
+/// Returns the registers of a first entry.
 pub(crate) fn first_registers(pc: u64, id: u64) -> Registers
     ensures { result ≡ with_x (record zeros { pc = pc }) 10 id }
 {

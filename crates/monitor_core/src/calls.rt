@@ -1,4 +1,4 @@
-//! A call, by the registers that name it.
+//! Serves a call by the registers that name it.
 
 use crate::answer::Served;
 use crate::parts::MonitorParts;
@@ -19,7 +19,7 @@ impl MonitorParts {
     ghost use Rattle.monitor_core.specs.States.{running_registers};
     ghost use Rattle.monitor_core.specs.Steps.{DoesCall};
 
-    /// The call that registers name, of the world on a hart.
+    /// Serves the call that the registers name, made by the world on a hart.
     fn call<D: Digests>(
         &mut self,
         hart: u8,
@@ -69,7 +69,7 @@ impl MonitorParts {
         }
     }
 
-    /// The call of the world on a hart, whose registers go past its instruction first.
+    /// Serves the call of the world on a hart, after advancing its registers past the call instruction.
     pub(crate) fn serve<D: Digests>(
         &mut self,
         hart: u8,

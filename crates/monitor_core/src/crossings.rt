@@ -1,4 +1,4 @@
-//! The ways between the host and an enclave: run, resume, stop, exit, and the timer.
+//! The switches between the host and an enclave: run, resume, stop, exit, and the timer.
 
 ghost use Rattle.std.specs.Prelude.{◌≡◌, ℕ, ◌+◌, ◌≤◌};
 ghost use Rattle.enclave_table.specs.declared.enclave.Enclave.{Enclave};
@@ -12,8 +12,7 @@ use crate::parts::MonitorParts;
 use crate::set_changes::SetChanges;
 use enclave_table::{Entering, Leaving, Refusal, World};
 
-/// What is said of the registers that an enclave goes on with: at its entry for the first time, as it was stopped after
-/// that.
+/// Records the registers with which an enclave continues: those of a first entry, or those it had when it was stopped.
 fn prepare(id: u64, entering: Entering, pc: u64, changes: &mut SetChanges)
     requires low { 1 ≤ id }
     requires high { id ≤ 64 }
@@ -45,7 +44,7 @@ impl MonitorParts {
     ghost use Rattle.monitor_core.specs.Steps.{DoesCall, DoesEnter, Interrupts};
     ghost use Rattle.sbi_decode.specs.declared.calls.Call.TheVariants as calls;
 
-    /// Run and resume: an enclave goes on on a hart. It is inlined, so that its answer is no block that goes byte by byte.
+    /// Run and resume: enters an enclave on a hart. It is inlined to avoid a bytewise copy of its result.
     #[inline(always)]
     pub(crate) fn enter(
         &mut self,
@@ -81,7 +80,7 @@ impl MonitorParts {
         }
     }
 
-    /// The enclave on a hart is left, and the host goes on there.
+    /// Leaves the enclave on a hart for the host.
     fn leave(&mut self, hart: u8, leaving: Leaving) -> Result<(), Refusal>
         requires on { IsOn self.old hart }
         ensures frame { KeepsFrame self.old self.new }
@@ -104,7 +103,7 @@ impl MonitorParts {
         Ok(())
     }
 
-    /// An enclave ends itself with a value for the host.
+    /// Exits the enclave on a hart, with a value for the host.
     pub(crate) fn exit(&mut self, hart: u8, value: u64, changes: &mut SetChanges) -> Served
         requires on { IsOn self.old hart }
         ensures frame { KeepsFrame self.old self.new }
@@ -129,7 +128,7 @@ impl MonitorParts {
         }
     }
 
-    /// An enclave stops itself.
+    /// Stops the enclave on a hart at its own request.
     pub(crate) fn stop(&mut self, hart: u8, changes: &mut SetChanges) -> Served
         requires on { IsOn self.old hart }
         ensures frame { KeepsFrame self.old self.new }
@@ -154,7 +153,7 @@ impl MonitorParts {
         }
     }
 
-    /// The timer's interrupt. The answer is whether the hart's entries are to be loaded anew.
+    /// Serves the timer's interrupt. Returns whether the hart's entries must be reloaded.
     pub(crate) fn pause(&mut self, hart: u8, changes: &mut SetChanges) -> bool
         requires on { IsOn self.old hart }
         ensures frame { KeepsFrame self.old self.new }

@@ -12,7 +12,7 @@ impl MonitorParts {
     ghost use Rattle.monitor_core.specs.Parts.{HoldsTogether, world_in};
     ghost use Rattle.monitor_core.specs.Worlds.{IsNoWorld};
 
-    /// The fewest entries that mean what a world may do: the host's, or that of an enclave that is live.
+    /// Returns the fewest entries that mean the view of a world: the host's, or that of a live enclave.
     pub(crate) fn entries_of(&self, world: World) -> Option<&[Entry]>
         ensures none { IfNone result (IsNoWorld self.now.table.table world) }
         ensures value { IfSome result (λ entries. entries.now ≡ list_of self.now.table world) }
@@ -25,7 +25,7 @@ impl MonitorParts {
         }
     }
 
-    /// The fewest entries that mean what the world on a hart may do.
+    /// Returns the fewest entries that mean the view of the world on a hart.
     pub(crate) fn entries(&self, hart: u8) -> &[Entry]
         requires hart { hart < 4 }
         requires whole { HoldsTogether self.now.table self.now.worlds self.now.marked }

@@ -2,8 +2,9 @@
 
 ghost use Rattle.monitor_core.specs.Loads.{KeepsLoaded};
 
-/// Where the caller loads a hart's entries exactly when it is asked to, and those of each hart that it wakes, each hart
-/// that is not marked has the fewest entries that mean the view of its world, after every call and every interrupt.
+/// If the caller loads a hart's entries exactly when the core requests it, and those of each hart that it wakes, then
+/// after every call and every interrupt each hart that is not marked has the fewest entries that mean the view of its
+/// world.
 pub fn loading_law()
     ensures { KeepsLoaded }
 {}

@@ -1,18 +1,18 @@
 //! The monitor on one to four harts, without memory, traces, register sets or loaded PMP entries.
 //!
-//! A [`Core`] is booted for a platform. It keeps the table of enclaves, the world that runs on each hart, and which harts
-//! are marked. [`Core::serve`] serves the call that the world on a hart made, by its registers; it returns the call's
-//! answer and the pages that the caller zeroes before the hart goes on, and reports what becomes of which register set
-//! ([`SetChanges`]): the caller keeps the sets, one for the host of each hart and one for each enclave.
-//! [`Core::interrupt`] does the same for the timer. The caller also lends the digest of an enclave that is created: memory,
-//! whose pages are measured then, or a digest that was taken before. A digest that is taken after the answer is given
-//! later: [`Answer::made`] returns the parts of the enclave, and [`Core::give_digest`] puts the digest into the table.
-//! [`Core::entries`] are the PMP entries that a hart is to have.
+//! A [`Core`] is booted for a platform. It stores the table of enclaves, the world on each hart, and the marked harts.
+//! [`Core::serve`] serves the call that the world on a hart made with its registers; it returns the answer and the
+//! pages that the caller must zero before the hart continues, and reports changes of register sets ([`SetChanges`]).
+//! The caller stores the sets, one for the host of each hart and one for each enclave. [`Core::interrupt`] does the
+//! same for the timer. The caller also supplies the digest of a new enclave: from memory, whose pages are then
+//! measured, or from an earlier measurement. The digest can also be taken after the answer: [`Answer::made`] returns
+//! the parts of the enclave, and [`Core::give_digest`] writes the digest to the table. [`Core::entries`] returns the
+//! PMP entries that a hart should have.
 //!
-//! For the layer above: each call is a step of the small machine in `specs/Steps`, which has no PMP entries and no bytes in
-//! it, whatever the register sets are. On every state the entries of a hart mean what its world may do, and no list of
-//! entries of any regions in any order that means it is shorter. A hart is marked when another hart's call changed the
-//! host's view: it loads the host's entries, and [`Core::wake`] removes the mark, before it goes on.
+//! For the layer above: each call is a step of the small machine in `specs/Steps`, which has no PMP entries and no
+//! bytes, for any register sets. In every state the entries of a hart mean the view of its world, and no list of
+//! entries of any regions in any order that means it is shorter. A hart is marked when another hart's call changes the
+//! host's view: before it continues, it loads the host's entries, and [`Core::wake`] removes the mark.
 //!
 //! Only boot, and a creation or a destruction that passes its other checks, allocate memory.
 //!

@@ -1,4 +1,4 @@
-//! The calls on what enclaves own: create, destroy, and a word of a digest.
+//! The calls on enclaves as owners: create, destroy, and a word of a digest.
 
 use crate::answer::{Answer, Served};
 use crate::parts::MonitorParts;
@@ -19,7 +19,7 @@ impl MonitorParts {
     ghost use Rattle.monitor_core.specs.Steps.{DoesCall};
     ghost use Rattle.sbi_decode.specs.declared.calls.Call.TheVariants as calls;
 
-    /// Creates an enclave, with the digest that its parts have.
+    /// Creates an enclave, with the digest of its parts.
     pub(crate) fn create<D: Digests>(
         &mut self,
         hart: u8,
@@ -53,7 +53,7 @@ impl MonitorParts {
         }
     }
 
-    /// A live enclave has this digest now.
+    /// Sets the digest of a live enclave.
     pub(crate) fn give_digest(&mut self, id: u64, digest: &[u8; 32])
         requires whole { HoldsTogether self.old.table self.old.worlds self.old.marked }
         requires live { (e : Enclave) × Live self.old.table.table id e }
@@ -65,8 +65,8 @@ impl MonitorParts {
         give_digest(&mut self.table, id, digest);
     }
 
-    /// What is said of register sets after a destruction: those of the enclave are zero, and the host that called has 0
-    /// in a0 and a1.
+    /// Records the changes of register sets by a destruction: those of the enclave become zero, and the calling host
+    /// gets 0 in a0 and a1.
     fn say_destroyed(&self, hart: u8, id: u64, changes: &mut SetChanges)
         requires hart { hart < 4 }
         requires low { 1 ≤ id }
@@ -82,7 +82,7 @@ impl MonitorParts {
         changes.third.answer(who, 0, 0);
     }
 
-    /// Destroys an enclave, whose private pages are to be made zero.
+    /// Destroys an enclave, whose private pages must then be zeroed.
     pub(crate) fn destroy(&mut self, hart: u8, id: u64, changes: &mut SetChanges) -> Served
         requires on { IsOn self.old hart }
         ensures frame { KeepsFrame self.old self.new }
@@ -108,7 +108,7 @@ impl MonitorParts {
         }
     }
 
-    /// A word of an enclave's digest.
+    /// Returns a word of an enclave's digest.
     pub(crate) fn measure(&mut self, hart: u8, id: u64, k: u64, changes: &mut SetChanges) -> Served
         requires on { IsOn self.old hart }
         ensures frame { KeepsFrame self.old self.new }

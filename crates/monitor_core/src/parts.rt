@@ -1,9 +1,9 @@
-//! The parts of the core, and what a call changes of them, one part at a time.
+//! The parts of the core, and the changes that a call makes to them, one part at a time.
 
 use crate::set_changes::SetChanges;
 use enclave_table::{Table, World};
 
-/// The table of enclaves, the world that runs on each hart, and the harts that are marked.
+/// The table of enclaves, the world on each hart, and the marked harts.
 #[derive(Drop)]
 pub(crate) struct MonitorParts {
     pub(crate) table: Table,
@@ -20,19 +20,19 @@ impl MonitorParts {
     ghost use Rattle.monitor_core.specs.Parts.{HoldsTogether, mark_in, state_in, world_in};
     ghost use Rattle.monitor_core.specs.SetChanges.{later, owner_of};
 
-    /// The world that runs on a hart.
+    /// Returns the world on a hart.
     pub(crate) fn world(&self, hart: u8) -> World
         requires { hart < 4 }
         ensures { result ≡ world_in self.now.worlds hart }
     {
-        // (a copy of the whole goes byte by byte on RV64)
+        // (RV64 code copies the whole value byte by byte.)
         match self.worlds[hart as usize] {
             World::Host => World::Host,
             World::Enclave(id) => World::Enclave(id),
         }
     }
 
-    /// Who runs on a hart, as a change names it.
+    /// Returns the number by which a change names the world on a hart.
     pub(crate) fn running(&self, hart: u8) -> u64
         requires hart { hart < 4 }
         requires whole { HoldsTogether self.now.table self.now.worlds self.now.marked }
@@ -46,7 +46,7 @@ impl MonitorParts {
         }
     }
 
-    /// Whether a hart is marked.
+    /// Returns whether a hart is marked.
     pub(crate) fn is_marked(&self, hart: u8) -> bool
         requires { hart < 4 }
         ensures { result ≡ mark_in self.now.marked hart }
@@ -54,7 +54,7 @@ impl MonitorParts {
         self.marked[hart as usize]
     }
 
-    /// What is said of register sets: two words are put into a0 and a1 of the world that runs on a hart.
+    /// Records a change of register sets: two words go to a0 and a1 of the world on a hart.
     pub(crate) fn answer(&self, hart: u8, first: u64, second: u64, changes: &mut SetChanges)
         requires hart { hart < 4 }
         requires whole { HoldsTogether self.now.table self.now.worlds self.now.marked }
@@ -68,7 +68,7 @@ impl MonitorParts {
         changes.third.nothing();
     }
 
-    /// Another world runs on a hart now, with the registers that it has.
+    /// Switches a hart to another world, with the registers of that world.
     pub(crate) fn go_to(&mut self, hart: u8, to: World)
         requires { hart < 4 }
         ensures state { (sets : Runner → RegisterFile)
@@ -79,7 +79,7 @@ impl MonitorParts {
         self.worlds[hart as usize] = to;
     }
 
-    /// The mark of a hart is taken away.
+    /// Removes the mark of a hart.
     pub(crate) fn clear_mark(&mut self, hart: u8)
         requires { hart < 4 }
         ensures state { (sets : Runner → RegisterFile)
@@ -90,7 +90,7 @@ impl MonitorParts {
         self.marked[hart as usize] = false;
     }
 
-    /// Whether a hart is in the host's world.
+    /// Returns whether a hart is in the host's world.
     fn is_at_host(&self, hart: u8) -> bool
         requires { hart < 4 }
         ensures { result ≡ is_host (world_in self.now.worlds hart) }
@@ -98,7 +98,7 @@ impl MonitorParts {
         matches!(self.world(hart), World::Host)
     }
 
-    /// Every other hart of the platform that is in the host's world is marked.
+    /// Marks every other hart of the platform that is in the host's world.
     pub(crate) fn mark_others(&mut self, hart: u8)
         requires on { IsOn self.old hart }
         ensures whole { HoldsTogether self.new.table self.new.worlds self.new.marked }

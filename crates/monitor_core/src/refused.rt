@@ -1,4 +1,4 @@
-//! Calls that are refused.
+//! Refusals of calls.
 
 use crate::answer::{Answer, Served, word_below_zero};
 use crate::parts::MonitorParts;
@@ -15,7 +15,7 @@ impl MonitorParts {
     ghost use Rattle.monitor_core.specs.SetChanges.{later};
     ghost use Rattle.monitor_core.specs.Steps.{Refuses};
 
-    /// A call is refused with a number below zero.
+    /// Refuses a call with the negated number as its status.
     pub(crate) fn refuse(&mut self, hart: u8, number: u64, changes: &mut SetChanges) -> Served
         requires on { IsOn self.old hart }
         requires low { 1 ≤ number }
@@ -34,7 +34,7 @@ impl MonitorParts {
         }
     }
 
-    /// A call is refused, and this is why.
+    /// Refuses a call for this reason.
     pub(crate) fn refuse_for(
         &mut self,
         hart: u8,

@@ -1,31 +1,32 @@
-//! What becomes of register sets over a call or an interrupt on a hart.
+//! The changes of register sets by a call or an interrupt on a hart.
 //!
-//! The caller of the monitor keeps the sets. A change is put in place word by word: a copy of a whole set goes byte by
-//! byte on RV64.
+//! The caller of the monitor stores the sets. A change is applied word by word, because RV64 code copies a whole set
+//! byte by byte.
 
 use crate::call_registers::{first_registers, go_past_call, put_answer};
 use sbi_decode::{Registers, World};
 
-/// What becomes of one register set.
+/// The kind of a change of one register set.
 #[derive(Clone, Copy, PartialEq, Eq)]
 pub enum ChangeKind {
-    /// Nothing.
+    /// No change.
     Nothing,
-    /// The pc goes past the instruction of a call, which is four bytes long.
+    /// The pc advances past the call instruction, which is four bytes long.
     PastCall,
-    /// Two words are put into a0 and a1.
+    /// Two words go to a0 and a1.
     Answer,
-    /// It is that of a first entry: the pc is a word, a0 the enclave's id, and each other register zero.
+    /// The set becomes that of a first entry: a word in the pc, the enclave's id in a0, and zero in each other
+    /// register.
     Begin,
-    /// Each register is zero, and the pc too.
+    /// Every register and the pc become zero.
     Clear,
 }
 
-/// A change of one register set: which set it is, and what becomes of it. No other set changes.
+/// A change of one register set: the set and the kind of the change. No other set changes.
 #[derive(Clone, Copy)]
 pub struct SetChange {
     pub kind: ChangeKind,
-    /// Whose set it is: an enclave's by its id, 1 to 64, or 0 for that of the hart's host.
+    /// The owner of the set: an enclave by its id, 1 to 64, or 0 for the hart's host.
     pub enclave: u64,
     /// The word for a0, or the pc of a first entry.
     pub first: u64,
@@ -33,7 +34,7 @@ pub struct SetChange {
     pub second: u64,
 }
 
-/// At most three changes, one after another.
+/// Up to three changes in order.
 #[derive(Clone, Copy)]
 pub struct SetChanges {
     pub first: SetChange,
@@ -47,7 +48,7 @@ impl SetChange {
     ghost use Rattle.monitor_core.specs.SetChanges.{change, no_change, owner_of};
     ghost use Rattle.monitor_core.specs.declared.set_changes.ChangeKind.TheVariants as kinds;
 
-    /// No change.
+    /// Returns an empty change.
     fn none() -> SetChange
         ensures { result ≡ no_change }
     {
@@ -71,7 +72,7 @@ impl SetChange {
         World::Enclave(self.enclave)
     }
 
-    /// Changes the set that it names.
+    /// Applies the change to the set that it names.
     pub fn apply(&self, set: &mut Registers)
         ensures { (hart : ℕ) → set.new
             ≡ change hart self.now (λ who. set.old) (owner_of hart self.now.enclave) }
@@ -85,7 +86,7 @@ impl SetChange {
         }
     }
 
-    /// Nothing changes.
+    /// Makes the change empty.
     pub(crate) fn nothing(&mut self)
         ensures kind { self.new.kind ≡ kinds.Nothing }
         ensures enclave { self.new.enclave ≡ 0 }
@@ -94,7 +95,7 @@ impl SetChange {
         self.enclave = 0;
     }
 
-    /// A set goes past the instruction of a call.
+    /// Makes the change advance a set past a call instruction.
     pub(crate) fn past_call(&mut self, enclave: u64)
         ensures kind { self.new.kind ≡ kinds.PastCall }
         ensures enclave { self.new.enclave ≡ enclave }
@@ -103,7 +104,7 @@ impl SetChange {
         self.enclave = enclave;
     }
 
-    /// Two words are put into a0 and a1 of a set.
+    /// Makes the change write two words to a0 and a1 of a set.
     pub(crate) fn answer(&mut self, enclave: u64, first: u64, second: u64)
         ensures { self.new ≡ record {
           kind = kinds.Answer;
@@ -118,7 +119,7 @@ impl SetChange {
         self.second = second;
     }
 
-    /// A set is that of a first entry.
+    /// Makes the change turn a set into that of a first entry.
     pub(crate) fn begin(&mut self, id: u64, pc: u64)
         ensures kind { self.new.kind ≡ kinds.Begin }
         ensures enclave { self.new.enclave ≡ id }
@@ -129,7 +130,7 @@ impl SetChange {
         self.first = pc;
     }
 
-    /// A set is zero.
+    /// Makes the change zero a set.
     pub(crate) fn clear(&mut self, id: u64)
         ensures kind { self.new.kind ≡ kinds.Clear }
         ensures enclave { self.new.enclave ≡ id }
@@ -143,7 +144,7 @@ impl SetChanges {
     ghost use Rattle.std.specs.Prelude.{◌≡◌};
     ghost use Rattle.monitor_core.specs.SetChanges.{no_change};
 
-    /// No changes.
+    /// Returns no changes.
     pub fn none() -> SetChanges
         ensures first { result.first ≡ no_change }
         ensures second { result.second ≡ no_change }

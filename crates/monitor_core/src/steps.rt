@@ -1,4 +1,4 @@
-//! The core of the monitor, which keeps no registers.
+//! The core of the monitor, which stores no registers.
 
 ghost use Rattle.monitor_core.specs.Parts.{HoldsTogether};
 
@@ -12,8 +12,8 @@ use pmp_encoding::Entry;
 use sbi_decode::Registers;
 use std::alloc::Global;
 
-/// The table of enclaves, the worlds on one to four harts, and the harts that are marked. The register set of each hart's
-/// host and of each enclave lies with the caller: it is told what becomes of which.
+/// The table of enclaves, the worlds on one to four harts, and the marked harts. The caller stores the register sets of
+/// each hart's host and of each enclave; the core reports how they change.
 #[derive(Drop)]
 pub struct Core {
     pub(crate) parts: MonitorParts,
@@ -45,8 +45,9 @@ impl Core {
     ghost use Rattle.monitor_core.specs.Answers.{below_zero};
     ghost use Rattle.enclave_table.specs.Refusals.{refusal_number};
 
-    /// The core of a platform: no enclave, each hart in the host's world, no hart marked. Each register set is to be zero. It
-    /// is refused where the host's view needs more entries than the platform has, and where memory is.
+    /// Boots the core of a platform: no enclave, each hart in the host's world, no hart marked. The caller zeroes each
+    /// register set. Fails if the host's view needs more entries than a hart of the platform has, or if an allocation
+    /// fails.
     pub fn boot(alloc: Global, platform: Platform) -> Result<Core, BootFault>
         ensures state { IfOk result (λ core. (sets : Runner → RegisterFile)
             → core_state core sets ≡ record (opening_monitor platform) { registers = sets }) }
@@ -64,9 +65,9 @@ impl Core {
         }
     }
 
-    /// What is true of every core, with any register sets: its table is sound; each hart is in the host's world or in that
-    /// of an enclave that is Running; no enclave runs on two, and each that is Running runs on one; and a marked hart is in
-    /// the host's world.
+    /// Does nothing: a proof cites the invariant of every core by this call, for any register sets. Its table is sound;
+    /// each hart is in the host's world or in that of an enclave that is Running; each Running enclave runs on exactly
+    /// one hart; and a marked hart is in the host's world.
     pub fn cite_invariant(&self)
         ensures table { IsTable (core_kept self.now).table }
         ensures worlds { (sets : Runner → RegisterFile) → ArePlaced (core_state self.now sets) }
@@ -74,7 +75,7 @@ impl Core {
         self.parts.table.cite_invariant();
     }
 
-    /// How many harts there are, 1 to 4.
+    /// Returns the number of harts, 1 to 4.
     #[tactic(auto, unfolding(crate::specs::Cores::core_kept))]
     pub fn harts(&self) -> u8
         ensures value { result ≡ (core_kept self.now).table.layout.harts }
@@ -84,7 +85,7 @@ impl Core {
         self.parts.table.platform().harts()
     }
 
-    /// The table of enclaves.
+    /// Returns the table of enclaves.
     #[tactic(auto, unfolding(crate::specs::Cores::core_kept))]
     pub fn table(&self) -> &Table
         ensures { result.now ≡ core_kept self.now }
@@ -92,7 +93,7 @@ impl Core {
         &self.parts.table
     }
 
-    /// The world that runs on a hart.
+    /// Returns the world on a hart.
     #[tactic(auto, unfolding(crate::specs::Cores::worlds_of))]
     pub fn world(&self, hart: u8) -> World
         requires { hart < 4 }
@@ -103,7 +104,7 @@ impl Core {
         self.parts.world(hart)
     }
 
-    /// Whether a hart is marked: it is to load its entries, and to be woken, before it goes on.
+    /// Returns whether a hart is marked: before it continues, it must load its entries and be woken.
     #[tactic(auto, unfolding(crate::specs::Cores::core_marks))]
     pub fn is_marked(&self, hart: u8) -> bool
         requires { hart < 4 }
@@ -112,8 +113,8 @@ impl Core {
         self.parts.is_marked(hart)
     }
 
-    /// The PMP entries that a hart is to have: those of the view of the world that runs there, and no list of any regions
-    /// in any order that means that view is shorter.
+    /// Returns the PMP entries that a hart should have: they mean the view of its world, and no list of any regions in
+    /// any order that means that view is shorter.
     pub fn entries(&self, hart: u8) -> &[Entry]
         requires { hart < 4 }
         ensures fewest { IsFewest (current_view (core_kept self.now).table
@@ -125,7 +126,7 @@ impl Core {
         self.parts.entries(hart)
     }
 
-    /// The PMP entries of the host's view, or of that of an enclave that is live, whether it runs or not.
+    /// Returns the PMP entries of the host's view, or of the view of a live enclave, running or not.
     pub fn entries_of(&self, world: World) -> Option<&[Entry]>
         ensures none { IfNone result (IsNoWorld (core_kept self.now).table world) }
         ensures fewest { IfSome result (λ entries.
@@ -138,7 +139,8 @@ impl Core {
         self.parts.entries_of(world)
     }
 
-    /// How many entries the view of the world on a hart needs, which are as many as [`Core::entries`].
+    /// Returns the number of entries that the view of the world on a hart needs, which is the length of
+    /// [`Core::entries`].
     pub fn used(&self, hart: u8) -> u64
         requires { hart < 4 }
         ensures { Needs (current_view (core_kept self.now).table (worlds_of self.now hart)) result }
@@ -146,7 +148,7 @@ impl Core {
         self.parts.entries(hart).len() as u64
     }
 
-    /// The mark of a hart is taken away, which loads its entries before it goes on. Nothing else changes.
+    /// Removes the mark of a hart, which must load its entries before it continues. Nothing else changes.
     pub fn wake(&mut self, hart: u8)
         requires { hart < 4 }
         ensures state { (sets : Runner → RegisterFile)
@@ -156,10 +158,10 @@ impl Core {
         self.parts.clear_mark(hart);
     }
 
-    /// The call of the world on a hart, which these registers name; of them a0 to a7 alone are read. It says what becomes of
-    /// the register sets, whatever they are. The caller then makes the pages in `zero` zero, loads the entries of the hart
-    /// where it is asked to, and stops every other hart that is marked now until it was woken; then the hart goes on with the
-    /// set of its world.
+    /// Serves the call of the world on a hart, which these registers name; only a0 to a7 are read. It reports the
+    /// changes of the register sets, whatever they contain. The caller then zeroes the pages in `zero`, reloads the
+    /// entries of the hart if requested, and stops every other marked hart until that is woken. The hart then continues
+    /// with the set of its world.
     pub fn serve<D: Digests>(
         &mut self,
         hart: u8,
@@ -193,7 +195,7 @@ impl Core {
         self.parts.serve(hart, asked, digests, changes)
     }
 
-    /// An enclave that is live has this digest now, where its pages are measured after it was made. Nothing else changes.
+    /// Sets the digest of a live enclave whose pages are measured after its creation. Nothing else changes.
     pub fn give_digest(&mut self, id: u64, digest: &[u8; 32])
         requires { (e : Enclave) × Live (core_kept self.old).table id e }
         ensures { (e : Enclave) (sets : Runner → RegisterFile)
@@ -203,9 +205,9 @@ impl Core {
         self.parts.give_digest(id, digest);
     }
 
-    /// The timer's interrupt on a hart: an enclave is stopped, with the registers that it has, and the host goes on there. In
-    /// the host's world nothing changes. It says what becomes of the register sets, whatever they are, and answers whether
-    /// the hart's entries are to be loaded anew before it goes on.
+    /// Serves the timer's interrupt on a hart: an enclave is stopped with its current registers, and the host continues
+    /// there. In the host's world nothing changes. It reports the changes of the register sets, whatever they contain,
+    /// and returns whether the hart's entries must be reloaded before it continues.
     pub fn interrupt(&mut self, hart: u8, changes: &mut SetChanges) -> bool
         requires hart { hart < (core_kept self.old).table.layout.harts }
         requires awake { core_marks self.old hart ≡ false }

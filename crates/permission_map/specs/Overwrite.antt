@@ -1,4 +1,4 @@
--- Runs with one range overwritten, and the parts from which they are put together.
+-- Runs with one range overwritten, and the parts from which they are assembled.
 use Rattle.std.specs.Prelude.{◌≡◌, ◌≢◌, ℕ, ◌+◌, ◌^◌, ◌<◌, ◌≤◌, ◌↔◌, List, [], ◌∷◌, length, Result}
 use Rattle.std.specs.Prelude.{Option, None, Some, Ok, Err, OnOk, OnErr}
 use Rattle.pmp_encoding.specs.declared.perm.Perm.{Perm}
@@ -15,8 +15,8 @@ pub record AreOverwritten (old : List Run) (first count : ℕ) (perm : Perm) (ru
   pub are_runs : AreRuns runs
   pub view_is : SameView (view_of_runs runs) (overwritten (view_of_runs old) first count perm)
 
--- the permission of the `count` pages from `first` on is set, and no other; or it is refused, when
--- each reason says, and nothing changes
+-- the permission of the `count` pages from `first` on is set, and of no other page; or nothing
+-- changes, and each fault has its condition
 pub record SetsRange (old : List Run) (first count : ℕ) (perm : Perm) (new : List Run)
     (result : Result (Unit {0}) MapFault) : Type 0 where
   pub done : OnOk result (AreOverwritten old first count perm new)
@@ -30,19 +30,19 @@ pub record SetsRange (old : List Run) (first count : ℕ) (perm : Perm) (new : L
       → (runs : List Run) × AreOverwritten old first count perm runs
       × (length old < length runs) × (length runs ≤ 4096)
 
--- when runs that should become `wanted` may be left as they are: these are too many, or more than
--- there were, so that a growth can have been refused
+-- the conditions under which runs may stay unchanged instead of becoming `wanted`: there are too
+-- many of them, or more than before, so that an allocation may have failed
 abbrev pub MayRefuse : List Run → List Run → MapFault → Type 0
 MayRefuse old wanted PastEnd = ⊥
 MayRefuse old wanted TooManyRanges = 4096 < length wanted
 MayRefuse old wanted Memory = (length old < length wanted) × (length wanted ≤ 4096)
 
--- the runs became `wanted`, or they stay as they were for a reason
+-- the runs became `wanted`, or are unchanged for a reason
 abbrev pub Becomes : List Run → List Run → List Run → Result (Unit {0}) MapFault → Type 0
 Becomes old new wanted (Ok done) = (new ≡ wanted) × (length wanted ≤ 4096)
 Becomes old new wanted (Err fault) = (new ≡ old) × MayRefuse old wanted fault
 
--- the end of the last run and its permission, or what is given where there is none
+-- the end of the last run and its permission, by default the given ones
 abbrev pub last_end : ℕ → List Run → ℕ
 last_end at [] = at
 last_end at (run ∷ runs) = last_end (end_of run) runs
@@ -52,7 +52,7 @@ last_perm p [] = p
 last_perm p (run ∷ runs) = last_perm run.perm runs
 
 -- these runs stay below a range that begins at `first`, and a new run of the permission, which
--- takes in what it touches, begins at `start`
+-- absorbs its neighbour of the same permission, begins at `start`
 pub record IsBelow (runs : List Run) (first : ℕ) (perm : Perm) (below : List Run) (start : ℕ) :
     Type 0 where
   pub are_runs : AreRuns below
@@ -62,8 +62,8 @@ pub record IsBelow (runs : List Run) (first : ℕ) (perm : Perm) (below : List R
   pub same_below : (page : ℕ) → page < start → view_of_runs below page ≡ view_of_runs runs page
   pub taken_in : (page : ℕ) → start ≤ page → page < first → view_of_runs runs page ≡ perm
 
--- these runs stay after a range that ends at `end`, and a new run of the permission, which takes in
--- what it touches, ends at `stop`
+-- these runs stay after a range that ends at `end`, and a new run of the permission, which absorbs
+-- its neighbour of the same permission, ends at `stop`
 pub record IsAbove (runs : List Run) (end : ℕ) (perm : Perm) (above : List Run) (stop : ℕ) :
     Type 0 where
   pub are_runs : AreRunsAfter stop perm above
@@ -72,7 +72,7 @@ pub record IsAbove (runs : List Run) (end : ℕ) (perm : Perm) (above : List Run
   pub same_above : (page : ℕ) → stop ≤ page → view_of_runs above page ≡ view_of_runs runs page
   pub taken_in : (page : ℕ) → end ≤ page → page < stop → view_of_runs runs page ≡ perm
 
--- the new run, or none where it would have no permission
+-- the new run, or `None` if it would have no permission
 abbrev pub IsNew : ℕ → ℕ → Perm → Option Run → Type 0
 IsNew start stop perm None = perm ≡ NoAccess
 IsNew start stop perm (Some run) = (perm ≢ NoAccess) × (run.first ≡ start) × (end_of run ≡ stop)

@@ -1,11 +1,11 @@
--- The run that has a page, otherwise the next one after it.
+-- The run that contains a page, otherwise the next one after it.
 use Rattle.std.specs.Prelude.{◌≡◌, ◌≢◌, ℕ, ◌<◌, ◌≤◌, List, Contains}
 use Rattle.pmp_encoding.specs.declared.perm.Perm.TheVariants.{NoAccess}
 use Rattle.permission_map.specs.declared.runs.Run.{Run}
 use Rattle.permission_map.specs.Runs.{end_of, IsRunAfter, view_of_runs}
 
--- of the runs this is the first that ends after the page: none has a page between them, and the
--- view changes at its end
+-- the first of the runs that ends after the page: no page between them has a permission, and the
+-- view changes at the run's end
 pub record IsNext (runs : List Run) (page : ℕ) (run : Run) : Type 0 where
   pub one_of : Contains runs run
   pub is_run : IsRunAfter 0 NoAccess run

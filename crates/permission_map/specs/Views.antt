@@ -1,3 +1,2 @@
--- Views, with one range overwritten, and when two are the same: passed on to those who look for
--- them here.
+-- Re-exports views, overwritten views and equality of views.
 pub use Rattle.pmp_encoding.specs.Views.{overwritten, SameView}

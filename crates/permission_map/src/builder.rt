@@ -16,16 +16,18 @@ use pmp_encoding::{Perm, SPACE_PAGES};
 use std::alloc::{AllocError, Global};
 use std::marker::Model;
 
-/// The most points of a map, two for each run and one more, those that are idle, and room for two to come before others go.
+/// Maximum number of points: two for each run and one more, the idle points, and two that are inserted before others
+/// are removed.
 const MOST_POINTS: usize = 2 * MOST_RUNS + MOST_IDLE + 3;
 
-/// Room is taken for this many points: 128 KiB and more, which the C library gives back to the system when the map is finished. A smaller
-/// block would stay with the program, beside what a plan takes.
+/// Number of points to allocate. At more than 128 KiB, the C library returns the block to the system when the map is
+/// finished; a smaller block would stay in the process while a plan is made.
 const ROOM: usize = 16 * 1024 + 1;
 
-/// A map on which many ranges are set one after another, as the lines of a map file do. It is seen as the runs of the
-/// [`PermissionMap`] that it becomes. It keeps the pages at which the permission changes: a range replaces the few that
-/// lie in it by at most two, or leaves them where they are. Room for all is taken with the first run.
+/// Builds a map from many ranges set one after another, such as the lines of a map file. Contracts see it as the runs
+/// of the [`PermissionMap`] that it becomes. It stores the pages at which the permission changes: a range replaces the
+/// few points inside it by at most two, or rewrites them in place. Space for all points is allocated with the first
+/// run.
 #[derive(Drop)]
 pub struct MapBuilder {
     alloc: Global,
@@ -45,7 +47,7 @@ impl Model for MapBuilder {
     ghost invariant = { λ b. IsBuilt b.points.items b.runs (vec_capacity b.points) };
 }
 
-/// The run from a point up to a page, if it has a permission.
+/// Returns the run from a point up to a page, unless it allows nothing.
 fn run_at(point: Point, end: u64) -> Option<Run>
     requires { page_of point ≤ end }
     ensures { option_to_list result ≡ run_to end point }
@@ -61,7 +63,7 @@ fn run_at(point: Point, end: u64) -> Option<Run>
     })
 }
 
-/// Appends the run from a point up to a page, if it has a permission.
+/// Appends the run from a point up to a page, unless it allows nothing.
 fn push_run(point: Point, end: u64, runs: &mut Vec<Run>) -> Result<(), AllocError>
     requires { page_of point ≤ end }
     ensures { OnOk result (runs.new.items ≡ runs.old.items ++ run_to end point) }
@@ -89,7 +91,7 @@ fn push_runs(points: &[Point], runs: &mut Vec<Run>) -> Result<(), AllocError>
     push_run(turn, SPACE_PAGES, runs)
 }
 
-/// Takes room for all points that a map may have, where there is no run yet.
+/// Allocates space for the maximum number of points, if there is no run yet.
 fn make_room(points: &mut Vec<Point>, runs: usize) -> Result<(), AllocError>
     requires { 0 < runs → 12291 ≤ vec_capacity points.old }
     ensures items { points.new.items ≡ points.old.items }
@@ -102,8 +104,8 @@ fn make_room(points: &mut Vec<Point>, runs: usize) -> Result<(), AllocError>
     Ok(())
 }
 
-/// Sets the permission of the `count` pages from `first` on, or leaves the points as they were. The second is the number of
-/// their runs.
+/// Sets the permission of the `count` pages from `first` on, or fails and leaves the points unchanged. `runs` counts
+/// the runs.
 fn overwrite(
     points: &mut Vec<Point>,
     runs: &mut usize,
@@ -146,7 +148,7 @@ fn overwrite(
 }
 
 impl MapBuilder {
-    /// The map that has no permission on any page.
+    /// Returns the map that allows nothing on any page.
     pub fn new(alloc: Global) -> MapBuilder
         ensures { result ≡ [] }
     {
@@ -157,8 +159,8 @@ impl MapBuilder {
         }
     }
 
-    /// Sets the permission of the `count` pages from `first` on, and of no other page, as
-    /// [`PermissionMap::set_range`] does. Only the first run takes memory.
+    /// Sets the permission of the `count` pages from `first` on, as [`PermissionMap::set_range`] does. Only the first
+    /// run allocates.
     pub fn set_range(&mut self, first: u64, count: u64, perm: Perm) -> Result<(), MapFault>
         ensures sets { SetsRange self.old first count perm self.new result }
         ensures first { result ≡ Err MapFault.Memory → self.old ≡ [] }
@@ -169,7 +171,7 @@ impl MapBuilder {
         overwrite(&mut self.points, &mut self.runs, first, count, perm)
     }
 
-    /// The map. It can fail only where memory runs out, and not where it has no run.
+    /// Converts the builder into a map. Fails only if an allocation fails, which a map without runs does not need.
     pub fn finish(self) -> Result<PermissionMap, Memory>
         ensures map { IfOk result (λ map. map ≡ self) }
         ensures memory { OnErr result (0 < length self) }

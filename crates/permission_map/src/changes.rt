@@ -1,4 +1,4 @@
-//! A range that is written into the points of a map.
+//! Writes a range into the points of a map.
 
 ghost use Rattle.std.specs.Prelude.{◌≡◌, ◌≤◌, ◌<◌, ◌+◌, ◌-◌, ◌^◌, ◌++◌, ◌∷◌, Some, length, map, take, drop, option_to_list, vec_len, vec_capacity};
 ghost use Rattle.pmp_encoding.specs.declared.perm.Perm.TheVariants.{NoAccess};
@@ -7,14 +7,14 @@ ghost use Rattle.permission_map.specs.Points.{IsChanged, IsCut, IsStop, IsTurn, 
 use crate::points::{Point, perm_after};
 use pmp_encoding::{Perm, SPACE_PAGES};
 
-/// As many points may be idle: at them the permission does not change.
+/// Maximum number of idle points, at which the permission does not change.
 pub(crate) const MOST_IDLE: usize = 4096;
 
-/// Up to this many points of a range are rewritten where they are. Of more, most go.
+/// Maximum number of points in a range that are rewritten in place. If there are more, most are removed.
 const MOST_WRITTEN: usize = 8;
 
-/// Puts a point at an index, replacing the first of those up to `end`, otherwise before what is there. It answers
-/// how far those to be replaced reach now.
+/// Writes a point at index `at`: over the point there if `at` is before `end`, otherwise by insertion. Returns the new
+/// index of the point that was at `end`.
 fn put(points: &mut Vec<Point>, at: usize, end: usize, point: Point) -> usize
     requires order { at ≤ end }
     requires inside { end ≤ vec_len points.old }
@@ -38,8 +38,8 @@ fn put(points: &mut Vec<Point>, at: usize, end: usize, point: Point) -> usize
     end + 1
 }
 
-/// Puts two points before what is at an index. What is there and after it moves once for both: where the lines of a
-/// map come in no order, most of the time goes by such moves.
+/// Inserts two points at an index. The points from there on move once for both, because such moves dominate the time
+/// for maps whose lines are unordered.
 fn put_two(points: &mut Vec<Point>, at: usize, start: Point, stop: Point)
     requires inside { at ≤ vec_len points.old }
     requires room { vec_len points.old + 2 ≤ vec_capacity points.old }
@@ -59,8 +59,8 @@ fn put_two(points: &mut Vec<Point>, at: usize, start: Point, stop: Point)
     points[at + 1] = stop;
 }
 
-/// Replaces the points with the indices from `from` to before `to` by at most two. It is a function of its own, so that how its
-/// loops lie in memory does not depend on who sets ranges.
+/// Replaces the points `from..to` by at most two. It is not inlined, so that the placement of its loops does not depend
+/// on its callers.
 #[inline(never)]
 fn replace(
     points: &mut Vec<Point>,
@@ -95,7 +95,7 @@ fn replace(
     drop(points.drain(at..end));
 }
 
-/// Gives the points with the indices from `from` to before `to` the permission, each at its page.
+/// Gives the points `from..to` the permission, each at its page.
 fn repeat(points: &mut Vec<Point>, from: usize, to: usize, perm: Perm)
     requires order { from ≤ to }
     requires inside { to ≤ vec_len points.old }
@@ -112,8 +112,9 @@ fn repeat(points: &mut Vec<Point>, from: usize, to: usize, perm: Perm)
     }
 }
 
-/// Writes a range over the points that lie in it, two at least: the first becomes its start and the last its stop. None moves,
-/// and those between them change nothing. The permission comes beside its start, so that it is not read back from there.
+/// Writes a range over the points inside it, of which there are at least two: the first becomes its start and the last
+/// its stop. No point moves, and the points between them become idle. `perm` is passed as well, to avoid reading it
+/// back from `start`.
 fn write_over(
     points: &mut Vec<Point>,
     from: usize,
@@ -136,7 +137,7 @@ fn write_over(
     points[to - 1] = stop;
 }
 
-/// The pages of a range, and the permission that it sets.
+/// The pages of a range and their new permission.
 #[derive(Clone, Copy)]
 pub(crate) struct Setting {
     pub(crate) first: u64,
@@ -144,8 +145,9 @@ pub(crate) struct Setting {
     pub(crate) perm: Perm,
 }
 
-/// Sets a range between the first `from` points and those after the first `to`. Where a few points lie in it, they stay, some
-/// of them idle: so lines that override one another over and over move no points. Otherwise at most two take their place.
+/// Sets a range that lies after the first `from` points and before those after the first `to`. If it contains only a
+/// few points, they are rewritten in place, some as idle points, so that lines that repeatedly override one another
+/// move no points. Otherwise at most two points replace them.
 pub(crate) fn change(
     points: &mut Vec<Point>,
     from: usize,

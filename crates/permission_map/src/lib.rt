@@ -1,17 +1,17 @@
-//! A view of the physical address space, a permission for each page, kept as its maximal runs.
+//! A view of the physical address space, stored as its maximal runs of pages with one permission.
 //!
 //! A page is 4096 bytes, and the space has `2 ^ 44` pages, as the 56-bit physical addresses of the RISC-V privileged
-//! architecture allow. A [`PermissionMap`] is seen as the list of its [`Run`]s, and `specs/Runs.antt` reads the view from
-//! them. The layers above use four facts:
+//! architecture allow. Contracts see a [`PermissionMap`] as the list of its [`Run`]s, and `specs/Runs.antt` defines the
+//! view of such a list. The layers above use four facts:
 //!
-//! - `set_range` changes the permission of the range's pages and of no other page, or answers a [`MapFault`] and changes
-//!   nothing;
-//! - `get`, `uniform` and `next_run` answer by the view;
+//! - `set_range` changes the permission of the pages of the range and of no other page, or returns a [`MapFault`] and
+//!   changes nothing;
+//! - `get`, `uniform` and `next_run` answer according to the view;
 //! - the runs are maximal and in order, and the view determines them (`same_runs_law`);
 //! - one range adds at most two runs (`runs_law`).
 //!
-//! A [`MapBuilder`] takes many ranges one after another, as a map file sets them, by the same contract of `set_range`, and
-//! becomes a map at the end. It keeps the points at which the permission changes instead of runs.
+//! A [`MapBuilder`] sets many ranges one after another, as a map file does, with the same contract for `set_range`, and
+//! is converted into a map at the end. It stores the points at which the permission changes instead of runs.
 //!
 //! ```text
 //! let mut map = PermissionMap::new(alloc);

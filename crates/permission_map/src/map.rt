@@ -18,11 +18,11 @@ use pmp_encoding::{Perm, SPACE_PAGES, pages_of};
 use std::alloc::{AllocError, Global};
 use std::marker::Model;
 
-/// A growth was refused.
+/// An allocation failed.
 pub type Memory = AllocError;
 
-/// A permission for each page of the space, seen as its maximal runs of a permission other than none. It has at most
-/// 4096 of them.
+/// A permission for each page of the space. Contracts see it as its maximal runs of a permission other than none, of
+/// which it has at most 4096.
 #[derive(Drop)]
 pub struct PermissionMap {
     runs: Vec<Run>,
@@ -42,7 +42,7 @@ impl Model for PermissionMap {
 }
 
 impl PermissionMap {
-    /// The map that has no permission on any page.
+    /// Returns the map that allows nothing on any page.
     pub fn new(alloc: Global) -> PermissionMap
         ensures runs { result ≡ [] }
         ensures none { (page : ℕ) → view_of_runs result page ≡ NoAccess }
@@ -52,7 +52,7 @@ impl PermissionMap {
         }
     }
 
-    /// The map of these runs.
+    /// Returns the map with these runs.
     pub(crate) fn of_runs(runs: Vec<Run>) -> PermissionMap
         requires runs { AreRuns runs.items }
         requires most { length runs.items ≤ 4096 }
@@ -61,7 +61,7 @@ impl PermissionMap {
         PermissionMap { runs }
     }
 
-    /// The maximal runs of a permission other than none, by rising page: at most 4096 of them.
+    /// Returns the maximal runs of a permission other than none, by ascending page: at most 4096.
     pub fn ranges(&self) -> &[Run]
         ensures value { result.now ≡ self.now }
         ensures runs { AreRuns self.now }
@@ -70,7 +70,8 @@ impl PermissionMap {
         self.runs.as_slice()
     }
 
-    /// The run that has the page, otherwise the first one after it; nothing where no page from this one on has a permission.
+    /// Returns the run that contains the page, otherwise the first run after it, or `None` if no page from this one on
+    /// has a permission.
     pub fn next_run(&self, page: u64) -> Option<Run>
         ensures { MatchOption result ((q : ℕ) → page ≤ q
             → view_of_runs self.now q ≡ NoAccess)
@@ -79,7 +80,7 @@ impl PermissionMap {
         next(&self.runs, page)
     }
 
-    /// The permission of a page, by its number below `2 ^ 44`.
+    /// Returns the permission of a page, by its number below `2 ^ 44`.
     pub fn get(&self, page: u64) -> Perm
         requires { page < 2 ^ 44 }
         ensures { result ≡ view_of_runs self.now page }
@@ -90,8 +91,8 @@ impl PermissionMap {
         }
     }
 
-    /// The permission that all pages of a block have, or nothing where they have more than one. The block is the
-    /// `2 ^ log2` pages from `first` on, aligned to their number and inside the space.
+    /// Returns the permission of all pages of a block, or `None` if they have different ones. The block is the `2 ^
+    /// log2` pages from `first` on, aligned to its size and inside the space.
     pub fn uniform(&self, first: u64, log2: u32) -> Option<Perm>
         requires aligned { first % 2 ^ log2 ≡ 0 }
         requires inside { first + 2 ^ log2 ≤ 2 ^ 44 }
@@ -112,7 +113,7 @@ impl PermissionMap {
         Some(run.perm)
     }
 
-    /// A copy of the map. It can fail only where memory runs out, and not where the map has no run.
+    /// Copies the map. Fails only if an allocation fails, which a map without runs does not need.
     pub fn try_clone(&self) -> Result<PermissionMap, Memory>
         ensures copy { IfOk result (λ copy. copy ≡ self.now) }
         ensures memory { OnErr result (0 < length self.now) }
@@ -124,8 +125,8 @@ impl PermissionMap {
         Ok(PermissionMap { runs })
     }
 
-    /// Sets the permission of the `count` pages from `first` on, and of no other page. On an error the map stays as it
-    /// was; see [`MapFault`] for when each comes. A range of no pages changes nothing.
+    /// Sets the permission of the `count` pages from `first` on, and of no other page. On an error, described at
+    /// [`MapFault`], the map is unchanged. An empty range changes nothing.
     pub fn set_range(&mut self, first: u64, count: u64, perm: Perm) -> Result<(), MapFault>
         ensures { SetsRange self.old first count perm self.new result }
     {

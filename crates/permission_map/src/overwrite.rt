@@ -1,4 +1,4 @@
-//! A range that overwrites what was there.
+//! Overwrites a range of runs.
 
 ghost use Rattle.std.specs.Prelude.{◌≡◌, ◌+◌, ◌++◌, ◌^◌, ◌≤◌, ◌<◌, All, List, Option, length, take, drop, option_to_list, vec_len, vec_capacity};
 ghost use Rattle.pmp_encoding.specs.declared.perm.Perm.TheVariants.{NoAccess};
@@ -11,10 +11,10 @@ use crate::runs::Run;
 use crate::search::{begun, clear_of};
 use pmp_encoding::Perm;
 
-/// The most runs of a map.
+/// Maximum number of runs of a map.
 pub(crate) const MOST_RUNS: usize = 4096;
 
-/// What stays of the run that goes over the range's first page, and where the new run begins.
+/// Returns the part below the range of a run that crosses or touches its first page, and the first page of the new run.
 fn rest_below(runs: &[Run], kept: usize, first: u64, perm: Perm) -> (Option<Run>, u64)
     requires runs { AreRuns runs.now }
     requires inside { kept ≤ length runs.now }
@@ -40,7 +40,7 @@ fn rest_below(runs: &[Run], kept: usize, first: u64, perm: Perm) -> (Option<Run>
     (Some(rest), first)
 }
 
-/// What stays of the run that goes over the range's end, and where the new run ends.
+/// Returns the part after the range of a run that crosses or touches its end, and the end of the new run.
 fn rest_above(runs: &[Run], gone: usize, end: u64, perm: Perm) -> (Option<Run>, u64)
     requires runs { AreRuns runs.now }
     requires inside { gone ≤ length runs.now }
@@ -68,7 +68,7 @@ fn rest_above(runs: &[Run], gone: usize, end: u64, perm: Perm) -> (Option<Run>, 
     (Some(rest), end)
 }
 
-/// The new run.
+/// Returns the new run, unless it allows nothing.
 fn new_run(start: u64, stop: u64, perm: Perm) -> Option<Run>
     requires { start ≤ stop }
     ensures { IsNew start stop perm result }
@@ -83,7 +83,7 @@ fn new_run(start: u64, stop: u64, perm: Perm) -> Option<Run>
     })
 }
 
-/// Puts a run in, where there is one. There is room for it.
+/// Inserts a run, if there is one. The vector has room for it.
 fn put(runs: &mut Vec<Run>, at: usize, run: Option<Run>)
     requires at { at ≤ vec_len runs.old }
     requires room { vec_len runs.old + length (option_to_list run) ≤ vec_capacity runs.old }
@@ -99,14 +99,14 @@ fn put(runs: &mut Vec<Run>, at: usize, run: Option<Run>)
     }
 }
 
-/// How many runs it is.
+/// Counts the runs: 0 or 1.
 fn count_of(run: &Option<Run>) -> usize
     ensures { result ≡ length (option_to_list run.now) }
 {
     usize::from(run.is_some())
 }
 
-/// Takes the runs with the indices from `from` to before `to` out.
+/// Removes the runs `from..to`.
 fn take_out(runs: &mut Vec<Run>, from: usize, to: usize)
     requires order { from ≤ to }
     requires inside { to ≤ vec_len runs.old }
@@ -117,7 +117,7 @@ fn take_out(runs: &mut Vec<Run>, from: usize, to: usize)
     drop(runs.drain(from..to));
 }
 
-/// Puts at most three runs in the place of those with the indices from `from` to before `to`.
+/// Replaces the runs `from..to` by at most three.
 fn replace(
     runs: &mut Vec<Run>,
     from: usize,
@@ -151,7 +151,7 @@ fn replace(
     Ok(())
 }
 
-/// Sets the permission of the `count` pages from `first` on, or leaves the runs as they were.
+/// Sets the permission of the `count` pages from `first` on, or leaves the runs unchanged.
 pub(crate) fn overwrite(
     runs: &mut Vec<Run>,
     first: u64,

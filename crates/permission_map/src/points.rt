@@ -1,4 +1,4 @@
-//! Pages at which the permission changes or has changed, searched without a branch, and the runs that they begin.
+//! Pages at which the permission may change, a branch-free search for them, and the runs that they begin.
 
 ghost use Rattle.std.specs.Prelude.{◌≡◌, ◌≤◌, ◌<◌, ◌+◌, ◌-◌, ◌^◌, All, length, take, drop, slice_index_or, count_by, option_to_list};
 ghost use Rattle.permission_map.specs.declared.points.Point.{Point};
@@ -7,7 +7,8 @@ ghost use Rattle.permission_map.specs.Points.{IsStop, IsTurn, Rise, allows, page
 
 use pmp_encoding::{Perm, SPACE_PAGES};
 
-/// The permission with each three bits. Read from a table, since the compiler makes a jump of a `match` and guesses it wrong.
+/// The permission for each value of the three bits. It is a table because the compiler turns a `match` into a jump that
+/// is often mispredicted.
 static PERMS: [Perm; 8] = [
     Perm::NoAccess,
     Perm::Read,
@@ -19,8 +20,8 @@ static PERMS: [Perm; 8] = [
     Perm::ReadWriteExecute,
 ];
 
-/// A page at which the permission changes or has changed, with the one that holds from there on. Both are kept in one number:
-/// moving points is then moving numbers of eight bytes, which becomes one `memmove`.
+/// A page at which the permission may change, with the permission from there on. Both are stored in one number, so that
+/// moving points becomes one `memmove`.
 #[derive(Clone, Copy)]
 pub(crate) struct Point {
     number: u64,
@@ -49,7 +50,7 @@ impl Point {
         PERMS[(self.number % 8) as usize]
     }
 
-    /// The point at the same page from which the permission holds.
+    /// Returns the point at the same page with this permission.
     pub(crate) fn with_perm(self, perm: Perm) -> Point
         ensures { result ≡ with_perm perm self }
     {
@@ -58,7 +59,7 @@ impl Point {
         }
     }
 
-    /// Whether its permission is another than none.
+    /// Returns whether its permission allows anything.
     pub(crate) fn allows(self) -> bool
         ensures { result ≡ allows self }
     {
@@ -66,8 +67,8 @@ impl Point {
     }
 }
 
-/// 1 where there are `count` points and the last of them comes before the page, otherwise 0. It takes no branch: of one, a
-/// search guesses every other wrong.
+/// Returns 1 if there are at least `count` points and the `count`-th comes before the page, otherwise 0. It has no
+/// branch, because a search would mispredict it half of the time.
 #[inline(always)]
 fn past(points: &[Point], count: usize, page: u64) -> usize
     requires some { 0 < length points.now }
@@ -83,7 +84,7 @@ fn past(points: &[Point], count: usize, page: u64) -> usize
     usize::from((count <= points.len()) & (points[last].page() < page))
 }
 
-/// How far a search steps for `bits` bits.
+/// Returns the step of a search for a bit.
 #[inline(always)]
 fn step_of(bits: u32) -> usize
     requires { bits ≤ 44 }
@@ -92,8 +93,8 @@ fn step_of(bits: u32) -> usize
     1 << bits
 }
 
-/// How many of the points come before the page, where there is one at least, and fewer than 2^bits. Where `bits` is a constant,
-/// so is each step: of a step that it does not know the compiler makes a branch.
+/// Counts the points before the page, if there is at least one point and there are fewer than 2^bits. With a constant
+/// `bits` each step is a constant; the compiler would make a branch of a variable step.
 #[inline(always)]
 fn before_within(points: &[Point], page: u64, bits: u32) -> usize
     requires points { Rise points.now }
@@ -114,7 +115,7 @@ fn before_within(points: &[Point], page: u64, bits: u32) -> usize
     low
 }
 
-/// How many of the points come before the page, by a search.
+/// Counts the points before the page by a search.
 #[inline(never)]
 fn search_before(points: &[Point], page: u64) -> usize
     requires points { Rise points.now }
@@ -132,8 +133,8 @@ fn search_before(points: &[Point], page: u64) -> usize
     }
 }
 
-/// How many of the points come before the page. The lines of most maps name ranges by rising address, so all but the last
-/// often do.
+/// Counts the points before the page. The last points are tested first, because most maps list ranges by ascending
+/// address.
 pub(crate) fn before(points: &[Point], page: u64) -> usize
     requires points { Rise points.now }
     requires inside { page ≤ 2 ^ 44 }
@@ -153,8 +154,8 @@ pub(crate) fn before(points: &[Point], page: u64) -> usize
     }
 }
 
-/// How many of the points come before the page or at it, where the first `from` do. Those after them are passed one by
-/// one: a range that ends there writes over them, or all but the last go with it.
+/// Counts the points before the page or at it; the first `from` points are known to be. The points after them are
+/// passed one by one, because the range then rewrites or removes nearly all of them.
 pub(crate) fn up_to(points: &[Point], from: usize, page: u64) -> usize
     requires points { Rise points.now }
     requires inside { from ≤ length points.now }
@@ -174,7 +175,7 @@ pub(crate) fn up_to(points: &[Point], from: usize, page: u64) -> usize
     to
 }
 
-/// The permission that holds after the first `count` points.
+/// Returns the permission after the first `count` points.
 pub(crate) fn perm_after(points: &[Point], count: usize) -> Perm
     requires { count ≤ length points.now }
     ensures { result ≡ standing NoAccess (take count points.now) }
@@ -185,7 +186,7 @@ pub(crate) fn perm_after(points: &[Point], count: usize) -> Perm
     points[count - 1].perm()
 }
 
-/// The point at a page from which on `perm` holds, where `before` holds up to it; none where they are the same.
+/// Returns the point at which `before` changes to `perm`, or `None` if they are the same.
 pub(crate) fn turn(before: Perm, page: u64, perm: Perm) -> Option<Point>
     requires { page < 2 ^ 44 }
     ensures { IsTurn before page perm result }
@@ -196,7 +197,7 @@ pub(crate) fn turn(before: Perm, page: u64, perm: Perm) -> Option<Point>
     Some(Point::new(page, perm))
 }
 
-/// The point at the end of a range, after which `after` holds; none at the end of the space.
+/// Returns the point at the end of a range, where `perm` changes to `after`, or `None` at the end of the space.
 pub(crate) fn stop(perm: Perm, end: u64, after: Perm) -> Option<Point>
     requires { end ≤ 2 ^ 44 }
     ensures { IsStop perm end after result }
@@ -207,7 +208,7 @@ pub(crate) fn stop(perm: Perm, end: u64, after: Perm) -> Option<Point>
     turn(perm, end, after)
 }
 
-/// How many of the points begin a run, where `before` holds before them.
+/// Counts the runs that these points begin, if `before` holds before them.
 fn begun_in(points: &[Point], before: Perm) -> usize
     ensures { result ≡ count_by allows (turns_after before points.now) }
 {
@@ -222,7 +223,7 @@ fn begun_in(points: &[Point], before: Perm) -> usize
     begun
 }
 
-/// 1 where a run begins at the point, otherwise 0.
+/// Returns 1 if a run begins at the point, otherwise 0.
 #[inline(always)]
 fn begun_by(point: Point, before: Perm) -> usize
     ensures value { result ≡ count_by allows (turn_at before point) }
@@ -231,7 +232,7 @@ fn begun_by(point: Point, before: Perm) -> usize
     usize::from(point.allows() & (point.perm() != before))
 }
 
-/// How many of the points from `from` to before `to` begin a run.
+/// Counts the runs that the points `from..to` begin.
 pub(crate) fn begun_between(points: &[Point], from: usize, to: usize) -> usize
     requires order { from ≤ to }
     requires inside { to ≤ length points.now }
@@ -243,7 +244,7 @@ pub(crate) fn begun_between(points: &[Point], from: usize, to: usize) -> usize
     begun_in(&points[from..to], perm_after(points, from))
 }
 
-/// How many runs the point begins, where there is one.
+/// Counts the runs that the point begins, if there is a point.
 pub(crate) fn begun_at(point: &Option<Point>) -> usize
     ensures { result ≡ count_by allows (option_to_list point.now) }
 {

@@ -1,4 +1,4 @@
-//! Where a page lies among the runs.
+//! Searches the runs for a page.
 
 ghost use Rattle.std.specs.Prelude.{◌≡◌, ◌≤◌, ◌<◌, ℕ, MatchOption, All, length, take, drop};
 ghost use Rattle.pmp_encoding.specs.declared.perm.Perm.TheVariants.{NoAccess};
@@ -7,7 +7,7 @@ ghost use Rattle.permission_map.specs.Search.{IsNext};
 
 use crate::runs::Run;
 
-/// How many of the runs end at the page or before.
+/// Counts the runs that end at or before the page.
 fn over(runs: &[Run], page: u64) -> usize
     requires { AreRuns runs.now }
     ensures bound { result ≤ length runs.now }
@@ -17,7 +17,7 @@ fn over(runs: &[Run], page: u64) -> usize
     runs.partition_point(|run| run.is_over(page))
 }
 
-/// The first run that ends after the page.
+/// Returns the first run that ends after the page.
 pub(crate) fn next(runs: &[Run], page: u64) -> Option<Run>
     requires { AreRuns runs.now }
     ensures { MatchOption result ((q : ℕ) → page ≤ q → view_of_runs runs.now q ≡ NoAccess)
@@ -31,7 +31,7 @@ pub(crate) fn next(runs: &[Run], page: u64) -> Option<Run>
     }
 }
 
-/// How many of the runs neither meet nor touch the pages from this one on.
+/// Counts the runs that end before the page without touching it.
 pub(crate) fn clear_of(runs: &[Run], first: u64) -> usize
     requires { AreRuns runs.now }
     ensures bound { result ≤ length runs.now }
@@ -41,7 +41,7 @@ pub(crate) fn clear_of(runs: &[Run], first: u64) -> usize
     runs.partition_point(|run| run.is_clear_of(first))
 }
 
-/// How many of the runs begin at the page or before.
+/// Counts the runs that begin at or before the page.
 pub(crate) fn begun(runs: &[Run], page: u64) -> usize
     requires { AreRuns runs.now }
     ensures bound { result ≤ length runs.now }

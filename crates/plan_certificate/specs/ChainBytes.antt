@@ -6,8 +6,8 @@ use Rattle.entry_planner.specs.declared.costs.BlockCost.{BlockCost}
 use Rattle.entry_planner.specs.Plans.{cost_in}
 use Rattle.certificate_format.specs.Spelling.{costs_bytes, node_bytes}
 
--- before the node of its smallest block: each split block's tag and costs, and the leaf of a lower
--- half that does not hold the smallest block
+-- the bytes before the node of the smallest block: each split block's tag and costs, and the leaf
+-- of each lower half that does not contain the smallest block
 abbrev pub head_bytes : List BlockCost → ℕ → ℕ → ℕ → Perm → List ℕ
 head_bytes costs i zero place before = []
 head_bytes costs i (suc n) place before =
@@ -15,7 +15,7 @@ head_bytes costs i (suc n) place before =
     ++ cond (ltb place (2 ^ n)) (head_bytes costs (i + 1) n place before) (node_bytes (Leaf before)
     ++ head_bytes costs (i + 1) n (place - 2 ^ n) before)
 
--- after it: the leaf of each upper half that does not hold it
+-- the bytes after that node: the leaf of each upper half that does not contain the smallest block
 abbrev pub tail_bytes : ℕ → ℕ → Perm → List ℕ
 tail_bytes zero place behind = []
 tail_bytes (suc n) place behind =

@@ -1,10 +1,10 @@
--- How bytes go to a sink a piece at a time.
+-- Bytes sent to a sink piece by piece.
 use Rattle.std.specs.Prelude.{◌≡◌, ℕ, ◌<◌, List, ◌++◌, length, Option}
 use Rattle.std.specs.Io.KnownBytes.{Appends}
 use Rattle.text_lines.specs.Streams.{WriteFails}
 
--- what a sink has taken, where that is known, how often it failed, and how often it took none of
--- some bytes
+-- the bytes that a sink has accepted, if they are known, its number of failures, and how often it
+-- accepted none of the bytes offered
 pub record Taken : Type 0 where
   pub contents : Option (List ℕ)
   pub failures : ℕ
@@ -14,8 +14,8 @@ abbrev pub taken : {W : Type 0} → (W → Option (List ℕ)) → (W → ℕ) �
 taken contents failures stalls sink =
     record { contents = contents sink; failures = failures sink; stalls = stalls sink }
 
--- bytes were put after those that were held: the sink took some from the front on, without a
--- failure, and the rest is held
+-- bytes were appended to those held: the sink accepted some from the front without a failure, and
+-- the rest is held
 pub record IsPut (held holds : List ℕ) (old new : Taken) (bytes : List ℕ) : Type 0 where
   pub went : List ℕ
   pub appended : Appends old.contents new.contents went
@@ -23,8 +23,8 @@ pub record IsPut (held holds : List ℕ) (old new : Taken) (bytes : List ℕ) : 
   pub well : new.failures ≡ old.failures
   pub unstalled : new.stalls ≡ old.stalls
 
--- the sink failed, or took none of some bytes, before it had taken all that were held and all after
--- them
+-- the sink failed, or accepted none of the bytes offered, before it had accepted all bytes held and
+-- all that follow
 pub record IsCut (held : List ℕ) (old new : Taken) (bytes : List ℕ) : Type 0 where
   pub went : List ℕ
   pub missing : List ℕ

@@ -1,4 +1,4 @@
-//! The certificate as bytes in memory.
+//! Writes the certificate as bytes in memory.
 
 ghost use Rattle.std.specs.Prelude.{◌≡◌, ◌-◌, ◌*◌, ◌≤◌, ◌<◌, ◌^◌, IfOk, length};
 ghost use Rattle.text_lines.specs.Writings.{writing, Prints};
@@ -19,7 +19,7 @@ use prefix_tree::{Halving, MapBlock, Tree};
 use std::alloc::{AllocError, Global};
 use text_lines::{Counted, DeviceFault, Sink};
 
-/// The certificate of the space, whose plan has a given number of split blocks.
+/// Writes the certificate of the space for a plan with the same number of split blocks.
 fn write_of<H: Halving, P: WrittenPlan>(
     alloc: Global,
     root: &H,
@@ -44,9 +44,9 @@ fn write_of<H: Halving, P: WrittenPlan>(
     Ok(sink.into_inner())
 }
 
-/// The certificate of a tree and its plan, for harts of `limit` entries: sixteen are written in the first form,
-/// sixty-four in the second. It has the plan's entries, each as its canonical pair, and the tree with the plan's
-/// costs. It asks that both have as many [`branches`](Tree::branches).
+/// Writes the certificate of a tree and its plan, for harts with `limit` entries: version 1 for sixteen, version 2 for
+/// sixty-four. It contains the canonical pairs of the plan's entries, and the tree with the plan's costs. The tree and
+/// the plan must have the same number of [`branches`](Tree::branches).
 pub fn write(alloc: Global, tree: &Tree, plan: &Plan, limit: Limit) -> Result<Vec<u8>, Memory>
     requires { splits tree.now ≡ length plan.now.costs }
     ensures bytes { IfOk result (λ v.
@@ -61,7 +61,8 @@ pub fn write(alloc: Global, tree: &Tree, plan: &Plan, limit: Limit) -> Result<Ve
     Ok(bytes)
 }
 
-/// The certificate of a map and its plan, as [`write`] has it for the canonical tree of its view. No tree is made.
+/// Writes the certificate of a map and its plan, as [`write`] does for the canonical tree of its view. No tree is
+/// built.
 pub fn write_map(
     alloc: Global,
     map: &PermissionMap,
@@ -80,7 +81,8 @@ pub fn write_map(
     Ok(bytes)
 }
 
-/// Sends the certificate that [`write_map`] makes to a sink, piece by piece, so that it is never held whole.
+/// Sends the certificate that [`write_map`] returns to a sink, piece by piece, so that it is never in memory as a
+/// whole.
 pub fn send_map<W: Sink>(
     map: &PermissionMap,
     plan: &Plan<PackedEntry>,

@@ -1,4 +1,4 @@
-//! Why the bytes of a plan are a certificate.
+//! The law that the bytes of a plan are a certificate.
 
 ghost use Rattle.std.specs.Prelude.{◌≡◌, ℕ, ◌*◌, ◌≤◌, List, length, All};
 ghost use Rattle.pmp_encoding.specs.declared.perm.Perm.TheVariants.{NoAccess};
@@ -12,9 +12,9 @@ ghost use Rattle.entry_planner.specs.Plans.{costed};
 ghost use Rattle.certificate_format.specs.declared.header.Version.{Version};
 ghost use Rattle.certificate_format.specs.Spelling.{Spells, IsCertificate};
 
-/// Bytes that spell a plan's entries, none of them below a page, and its tree with its costs are a certificate,
-/// where the costs are a sound bound of some view and the root's number for no access is the number of entries.
-/// This is what a plan of a tree promises, and what [`write`](crate::write) gives of both.
+/// Bytes that encode a plan's entries, each of at least a page, and its tree with its costs are a certificate, if the
+/// costs are a sound bound of some view and the root's number for no access is the number of entries. Plans of trees
+/// have these properties, and [`write`](crate::write) returns such bytes.
 pub fn certificate_law()
     ensures { (view : View) (tree : PermTree) (costs : List BlockCost)
         (entries : List Entry) (version : Version) (bytes : List ℕ)

@@ -1,8 +1,9 @@
 //! Writes the certificate of a tree and its plan.
 //!
-//! For the layer above: the bytes that [`write`] gives spell the plan's entries and the tree with the plan's costs,
-//! and nothing else; [`send_map`] sends the same bytes piece by piece and takes no memory. Of a plan's promises they are a certificate ([`certificate_law`]). What certificates are, and
-//! the cursor that reads them, are in `certificate_format`, whose names this crate re-exports.
+//! For the layer above: the bytes that [`write`] returns encode the plan's entries and the tree with the plan's costs,
+//! and nothing else; [`send_map`] sends the same bytes piece by piece and does not allocate. The bytes of a plan are a
+//! certificate ([`certificate_law`]). The format and the cursor that reads it are in `certificate_format`, which this
+//! crate re-exports.
 //!
 //! ```rust
 //! let tree = build(alloc, &map)?;

@@ -1,4 +1,4 @@
-//! The certificate, written piece by piece to a sink.
+//! Writes the certificate piece by piece to a sink.
 
 ghost use Rattle.std.specs.Prelude.{◌≡◌, ◌+◌, ◌-◌, ◌*◌, ◌≤◌, ◌<◌, ◌^◌, ◌∷◌, ◌++◌, ℕ, List, [], IfOk, IfErr, OnOk, length};
 ghost use Rattle.std.specs.List.{flat_map};
@@ -23,7 +23,7 @@ use pmp_encoding::{Limit, Perm};
 use prefix_tree::{Chain, Halving};
 use text_lines::{DeviceFault, Sink, write_whole};
 
-/// How many bytes go to a sink at a time.
+/// Maximum number of bytes that go to a sink at a time.
 const PIECE: usize = 16384;
 
 fn version_for(limit: Limit) -> Version
@@ -35,7 +35,7 @@ fn version_for(limit: Limit) -> Version
     }
 }
 
-/// Puts bytes after those that are held, for which there is room.
+/// Appends bytes to the current piece, which has room for them.
 fn hold(piece: &mut ArrayVec<u8, PIECE>, bytes: &[u8])
     requires { length piece.old.items + length bytes.now ≤ 16384 }
     ensures { piece.new.items ≡ piece.old.items ++ bytes.now }
@@ -45,7 +45,7 @@ fn hold(piece: &mut ArrayVec<u8, PIECE>, bytes: &[u8])
     };
 }
 
-/// Puts the form after what is held.
+/// Appends the version to the current piece.
 fn hold_version(piece: &mut ArrayVec<u8, PIECE>, version: Version)
     requires { length piece.old.items ≤ 16382 }
     ensures { piece.new.items ≡ piece.old.items ++ version_bytes version }
@@ -56,7 +56,7 @@ fn hold_version(piece: &mut ArrayVec<u8, PIECE>, version: Version)
     }
 }
 
-/// The header's bytes.
+/// Returns the header's bytes.
 #[tactic(auto, unfolding(crate::specs::Spelling::u32_bytes))]
 fn header_piece(header: Header) -> ArrayVec<u8, PIECE>
     ensures { result.items ≡ header_bytes header }
@@ -68,7 +68,7 @@ fn header_piece(header: Header) -> ArrayVec<u8, PIECE>
     piece
 }
 
-/// The costs of the i-th split block.
+/// Returns the costs of the i-th split block.
 fn costs_of(costs: &SplitCosts, i: usize) -> SixCosts
     requires { i < length costs.now }
     ensures costs { result ≡ six_of (cost_in costs.now i) }
@@ -84,7 +84,7 @@ fn costs_of(costs: &SplitCosts, i: usize) -> SixCosts
     }
 }
 
-/// A branch's tag and its costs.
+/// Returns a branch's tag and its costs.
 #[tactic(auto, unfolding(crate::specs::Spelling::u32_bytes))]
 fn front_of(costs: SixCosts) -> [u8; 25]
     ensures bytes { result ≡ 1 ∷ costs_bytes (cost_of costs) }
@@ -100,7 +100,7 @@ fn front_of(costs: SixCosts) -> [u8; 25]
     bytes
 }
 
-/// Makes room for `room` bytes after those that are held, which go to the sink where there is none.
+/// Makes room for `room` more bytes in the piece, which goes to the sink first if it is too full.
 fn make_room<W: Sink>(
     piece: &mut ArrayVec<u8, PIECE>,
     room: usize,
@@ -126,7 +126,7 @@ fn make_room<W: Sink>(
     Ok(())
 }
 
-/// Puts bytes after those that are held, which go to the sink first where there is no room.
+/// Appends bytes to the piece, which goes to the sink first if they do not fit.
 fn put<W: Sink>(
     piece: &mut ArrayVec<u8, PIECE>,
     bytes: &[u8],
@@ -147,7 +147,7 @@ fn put<W: Sink>(
     Ok(())
 }
 
-/// Puts the entries of a plan.
+/// Writes the entries of a plan.
 fn put_entries<P: WrittenPlan, W: Sink>(
     piece: &mut ArrayVec<u8, PIECE>,
     plan: &P,
@@ -170,8 +170,8 @@ fn put_entries<P: WrittenPlan, W: Sink>(
     Ok(())
 }
 
-/// Puts what comes before the node of a chain's smallest block: the branches, and the leaves of the pages before it. Says
-/// how many leaves come after it.
+/// Appends the part before the node of a chain's smallest block: the branches, and the leaves of the pages before that
+/// block. Returns the number of leaves after the node.
 fn hold_heads(piece: &mut ArrayVec<u8, PIECE>, chain: Chain, costs: &SplitCosts, i: usize) -> usize
     requires chain { chain.place < 2 ^ chain.levels }
     requires most { chain.levels ≤ 44 }
@@ -206,7 +206,7 @@ fn hold_heads(piece: &mut ArrayVec<u8, PIECE>, chain: Chain, costs: &SplitCosts,
     behind
 }
 
-/// Puts `count` leaves.
+/// Appends `count` leaves.
 fn hold_leaves(piece: &mut ArrayVec<u8, PIECE>, count: usize, perm: Perm)
     requires room { length piece.old.items + 2 * count ≤ 16384 }
     ensures { piece.new.items ≡ piece.old.items ++ leaves_bytes count perm }
@@ -220,7 +220,7 @@ fn hold_leaves(piece: &mut ArrayVec<u8, PIECE>, count: usize, perm: Perm)
     }
 }
 
-/// Puts what comes before the node of a chain's smallest block, and says how many leaves come after it.
+/// Writes the part before the node of a chain's smallest block, and returns the number of leaves after the node.
 fn put_heads<W: Sink>(
     piece: &mut ArrayVec<u8, PIECE>,
     chain: Chain,
@@ -252,7 +252,7 @@ fn put_heads<W: Sink>(
     Ok(behind)
 }
 
-/// Puts what comes after it: `count` leaves.
+/// Writes the part after that node: `count` leaves.
 fn put_tails<W: Sink>(
     piece: &mut ArrayVec<u8, PIECE>,
     count: usize,
@@ -275,7 +275,7 @@ fn put_tails<W: Sink>(
     Ok(())
 }
 
-/// Puts the node of a block whose split blocks count from the i-th on, and answers the number of the first one after it.
+/// Writes the node of a block whose split blocks have the numbers from i on, and returns the next number.
 fn put_node<H: Halving, W: Sink>(
     piece: &mut ArrayVec<u8, PIECE>,
     block: &H,
@@ -330,7 +330,7 @@ fn put_node<H: Halving, W: Sink>(
     Ok(next)
 }
 
-/// Sends the certificate of the space, whose plan has a given number of split blocks, to a sink.
+/// Sends the certificate of the space to a sink, for a plan with the same number of split blocks.
 pub(crate) fn send<H: Halving, P: WrittenPlan, W: Sink>(
     root: &H,
     plan: &P,

@@ -1,4 +1,4 @@
-//! What is written of a plan, however it keeps its entries.
+//! The parts of a plan that a certificate contains, for any representation of the entries.
 
 ghost use Rattle.std.specs.Prelude.{◌≡◌, ◌<◌, length, slice_index_or};
 ghost use Rattle.pmp_encoding.specs.declared.region.Entry.{Entry};
@@ -11,36 +11,36 @@ use byteorder::{ByteOrder, LittleEndian};
 use entry_planner::{Plan, SplitCosts};
 use pmp_encoding::{Entry, PackedEntry};
 
-/// A plan of which a certificate is written.
+/// A plan for which a certificate can be written.
 pub(crate) trait WrittenPlan {
     ghost planned: { Self → Planned };
 
-    /// How many entries there are.
+    /// Returns the number of entries.
     fn count(&self) -> u32
         ensures { result ≡ length (planned self.now).entries };
 
-    /// The bytes of the i-th entry.
+    /// Returns the bytes of the i-th entry.
     fn pair(&self, i: usize) -> [u8; 9]
         requires { i < length (planned self.now).entries }
         ensures { (d : Entry) → result
             ≡ entry_bytes (slice_index_or (planned self.now).entries i d) };
 
-    /// What its split blocks cost.
+    /// Returns the costs of the split blocks.
     fn split_costs(&self) -> &SplitCosts
         ensures { result.now ≡ (planned self.now).costs };
 }
 
-/// An entry in a form in which a plan keeps it.
+/// A plan's representation of an entry.
 pub(crate) trait PairedEntry {
     ghost entry: { Self → Entry };
 
-    /// The configuration byte and the address register of its canonical pair.
+    /// Returns the configuration byte and the address register of the canonical pair.
     fn registers(&self) -> (u8, u64)
         ensures cfg { result.0 ≡ cfg_of (entry self.now) }
         ensures address { result.1 ≡ address_of (entry self.now) };
 }
 
-/// A configuration byte and an address register.
+/// Returns the bytes of a configuration byte and an address register.
 #[tactic(auto, unfolding(crate::specs::Spelling::u64_bytes))]
 fn pair_piece(cfg: u8, address: u64) -> [u8; 9]
     ensures { result ≡ pair_bytes (cfg, address) }

@@ -1,4 +1,4 @@
--- What C is answered of a certificate.
+-- The results of checks for C.
 use Rattle.std.specs.Prelude.{◌≡◌, ◌+◌, ℕ, ℤ, pos, negsuc, List, [], Result, Ok, Err}
 use Rattle.permission_map.specs.declared.runs.Run.{Run}
 use Rattle.permission_map.specs.Runs.{view_of_runs}
@@ -10,7 +10,7 @@ use Rattle.planner_for_c.specs.declared.settings.SettingFault.{SettingFault}
 use Rattle.planner_for_c.specs.Codes.{fault_code, no_memory}
 use Rattle.planner_for_c.specs.Settings.{FaultIn, LeadTo}
 
--- from -101 on, by the number that the program prints
+-- from -101 down, by the number that the program prints
 abbrev pub certificate_code : CheckRefusal → ℤ
 certificate_code refusal = negsuc (99 + refusal_number refusal)
 
@@ -19,8 +19,8 @@ abbrev pub check_code : Result ℕ CheckRefusal → ℤ
 check_code (Ok n) = pos n
 check_code (Err refusal) = certificate_code refusal
 
--- the bytes hold that many entries that mean the settings' map and are fewest; or are refused for
--- what is in them; or the settings make no map; or memory was refused
+-- the bytes contain this many entries, which are the fewest that mean the settings' map; or they
+-- are refused for their contents; or the settings make no map; or an allocation failed
 pub data IsChecked (settings : List Setting) (bytes : List ℕ) (old_place new_place : ℕ) : ℤ
     → Type 0 where
   accepted : (runs : List Run) (n : ℕ) → LeadTo [] settings runs

@@ -1,4 +1,4 @@
--- What C is answered of an access.
+-- The results of judgements for C.
 use Rattle.std.specs.Prelude.{ℕ, ℤ, List, Result}
 use Rattle.pmp_encoding.specs.declared.fault.EncodingFault.{EncodingFault}
 use Rattle.pmp_encoding.specs.declared.region.Entry.{Entry}
@@ -12,8 +12,8 @@ use Rattle.planner_for_c.specs.Accesses.{Says}
 use Rattle.planner_for_c.specs.Codes.{answer_code, pair_code, unknown_access}
 use Rattle.planner_for_c.specs.Registers.{HasFault, pairs_to}
 
--- the words say an access, and it is judged by the list of the first `count` pairs; or the first of
--- these pairs that has a fault is reported; or the words say none
+-- the words encode an access, which is judged by the list of the first `count` pairs; or the first
+-- of these pairs that has a fault is reported; or the words encode no access
 pub data IsJudged (registers : Registers) (count : ℕ) (words : AccessWords) : ℤ → Type 0 where
   judged :
       (a : Access) (entries : List Entry) (answer : Result (Unit {0}) Cause) → Says words a

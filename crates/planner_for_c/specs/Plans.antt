@@ -1,4 +1,4 @@
--- What it is to plan settings, and what C is answered.
+-- Plans of settings, and their results for C.
 use Rattle.std.specs.Prelude.{◌≡◌, ℕ, ℤ, pos, ◌<◌, ◌≤◌, List, [], length, min}
 use Rattle.pmp_encoding.specs.declared.region.Entry.{Entry}
 use Rattle.pmp_match.specs.Meaning.{IsFewest}
@@ -17,8 +17,8 @@ pub record IsPlanOf (settings : List Setting) (entries : List Entry) : Type 0 wh
   pub made : LeadTo [] settings runs
   pub fewest : IsFewest (view_of_runs runs) entries
 
--- the number of fewest entries; or the code of the fault of the first setting that is refused, with
--- its place; or that memory was refused
+-- the number of fewest entries; or the code of the first refused setting, with its index; or that
+-- an allocation failed
 pub data IsNumberOf (settings : List Setting) (old_place new_place : ℕ) : ℤ → Type 0 where
   number : (entries : List Entry) → IsPlanOf settings entries → new_place ≡ old_place
       → IsNumberOf settings old_place new_place (pos (length entries))
@@ -26,8 +26,8 @@ pub data IsNumberOf (settings : List Setting) (old_place new_place : ℕ) : ℤ 
       → IsNumberOf settings old_place new_place (fault_code fault)
   number_without_memory : new_place ≡ old_place → IsNumberOf settings old_place new_place no_memory
 
--- as the number, with registers that hold the fewest entries where there is room for them; in each
--- other case the registers stay as they were
+-- as for the number, with registers that hold the fewest entries if there is room for them;
+-- otherwise the registers are unchanged
 pub data IsPlanned (settings : List Setting) (room : ℕ) (old new : Registers)
     (old_place new_place : ℕ) : ℤ → Type 0 where
   fits :

@@ -8,12 +8,12 @@ use Rattle.pmp_encoding.specs.Lists.{MeansList}
 use Rattle.pmp_encoding.specs.Registers.{cfg_byte, pairs_from}
 use Rattle.planner_for_c.specs.declared.registers.Registers.{Registers}
 
--- the pairs of the first entries of a hart that has `count` of them
+-- the pairs of a hart with `count` entries
 abbrev pub pairs_to : Registers → ℕ → List (ℕ × ℕ)
 pairs_to registers count = pairs_from registers.cfg registers.addr 0 count
 
--- the registers hold the entries from entry 0 on, in their canonical pairs, and zero past them:
--- each hart that has room for them has that list
+-- the registers hold the entries from entry 0 on, in their canonical pairs, and zero after them:
+-- each hart with room for them has that list
 pub record HoldsList (registers : Registers) (entries : List Entry) : Type 0 where
   pub list : (count : ℕ) → length entries ≤ count → count ≤ 64
       → MeansList (pairs_to registers count) entries
@@ -22,7 +22,7 @@ pub record HoldsList (registers : Registers) (entries : List Entry) : Type 0 whe
   pub off : (i : ℕ) → length entries ≤ i → i < 64 → (cfg_byte registers.cfg i ≡ 0)
       × (slice_index registers.addr i ≡ 0)
 
--- of the first `count` pairs one has a fault: this is the least fault of the first of them
+-- one of the first `count` pairs has a fault; this is the least fault of the first such pair
 pub record HasFault (registers : Registers) (count : ℕ) (fault : EncodingFault) : Type 0 where
   pub place : ℕ
   pub inside : place < count

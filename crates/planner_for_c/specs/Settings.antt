@@ -1,5 +1,5 @@
--- What settings say: each gives pages a permission, and one after another they make a map, or one
--- of them is at fault.
+-- The meaning of settings: each gives a permission to pages, and one after another they make a map,
+-- unless one is refused.
 use Rattle.std.specs.Prelude.{◌≡◌, ◌≢◌, ℕ, suc, ◌+◌, ◌/◌, ◌%◌, ◌^◌, ◌<◌, ◌≤◌, List, [], ◌∷◌, length}
 use Rattle.pmp_encoding.specs.declared.perm.Perm.{Perm}
 use Rattle.pmp_encoding.specs.Perms.{bits_of}
@@ -16,20 +16,20 @@ use Rattle.planner_for_c.specs.declared.settings.SettingFault.TheVariants.{TooMa
 abbrev pub IsOnPages : Setting → Type 0
 IsOnPages setting = (setting.base % 4096 ≡ 0) × (setting.size % 4096 ≡ 0)
 
--- all of its bytes lie in the space
+-- all bytes of the setting are in the address space
 abbrev pub IsInside : Setting → Type 0
 IsInside setting = setting.base + setting.size ≤ 2 ^ 56
 
--- its number is that of the permission
+-- the setting has this permission
 abbrev pub Names : Setting → Perm → Type 0
 Names setting perm = bits_of perm ≡ setting.perm
 
--- the runs of a map with the permission on the setting's pages
+-- the runs of a map after the permission is set on the setting's pages
 abbrev pub AreSet : List Run → Setting → Perm → List Run → Type 0
 AreSet before setting perm after =
     AreOverwritten before (setting.base / 4096) (setting.size / 4096) perm after
 
--- a setting leads from a map to a map of at most 4096 ranges
+-- a setting turns one map into another, which has at most 4096 ranges
 pub record Sets (before : List Run) (setting : Setting) (after : List Run) : Type 0 where
   pub pages : IsOnPages setting
   pub inside : IsInside setting
@@ -38,7 +38,7 @@ pub record Sets (before : List Run) (setting : Setting) (after : List Run) : Typ
   pub overwritten : AreSet before setting perm after
   pub few : length after ≤ 4096
 
--- one setting after another leads from a map to a map
+-- the settings, one after another, turn one map into another
 pub data LeadTo : List Run → List Setting → List Run → Type 0 where
   done : {map : List Run} → LeadTo map [] map
   next :
@@ -54,7 +54,7 @@ pub record SetsTooMany (before : List Run) (setting : Setting) : Type 0 where
   pub overwritten : AreSet before setting perm runs
   pub many : 4096 < length runs
 
--- what a setting is refused for, the first of these
+-- the reason why a setting is refused, the first that applies
 abbrev pub IsRefusedFor : SettingFault → List Run → Setting → Type 0
 IsRefusedFor UnalignedBase before setting = setting.base % 4096 ≢ 0
 IsRefusedFor UnalignedSize before setting = (setting.base % 4096 ≡ 0) × (setting.size % 4096 ≢ 0)
@@ -64,7 +64,7 @@ IsRefusedFor PastEnd before setting = IsOnPages setting × ((perm : Perm) × Nam
 IsRefusedFor TooManyRanges before setting = IsOnPages setting × IsInside setting
     × SetsTooMany before setting
 
--- the first of the settings that is refused has this number, from 0, and is refused for this
+-- the first refused setting has this index, and is refused for this reason
 pub data FaultIn : List Run → List Setting → ℕ → SettingFault → Type 0 where
   here : {before : List Run} {setting : Setting} {settings : List Setting} {fault : SettingFault}
       → IsRefusedFor fault before setting → FaultIn before (setting ∷ settings) 0 fault

@@ -1,4 +1,4 @@
-//! Accesses as C has them.
+//! Accesses in C's layout.
 
 ghost use Rattle.std.specs.Prelude.{◌≡◌, ◌≢◌, IfNone, IfSome};
 ghost use Rattle.pmp_match.specs.declared.access.Access.{Access};
@@ -14,9 +14,9 @@ use pmp_match::{Access, Kind, Mode};
 pub struct AccessWords {
     /// User is 0, supervisor 1, machine 3.
     pub mode: u64,
-    /// A load is 1, a store 2, a fetch 4, as the permission that each wants.
+    /// 1 for a load, 2 for a store, 4 for a fetch: the bit of the permission that it requires.
     pub kind: u64,
-    /// 1, 2, 4 or 8, of a fetch 2 or 4.
+    /// 1, 2, 4 or 8; for a fetch 2 or 4.
     pub size: u64,
     /// The lowest address.
     pub address: u64,
@@ -47,7 +47,7 @@ fn kind_of(number: u64) -> Option<Kind>
 }
 
 impl AccessWords {
-    /// The access that the words say, or nothing where they say none.
+    /// Decodes the access, if the words are valid.
     pub(crate) fn access(&self) -> Option<Access>
         ensures some { IfSome result (Says self.now) }
         ensures none { IfNone result ((access : Access) → ¬ Says self.now access) }

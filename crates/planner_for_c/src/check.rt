@@ -1,4 +1,4 @@
-//! What C calls to have a certificate checked.
+//! The C function that checks a certificate.
 
 ghost use Rattle.std.specs.Prelude.{◌≡◌, ◌⊎◌, ℕ, List, [], pos};
 ghost use Rattle.permission_map.specs.declared.runs.Run.{Run};
@@ -14,14 +14,14 @@ use crate::settings::{Setting, map_of};
 use certificate_check::{CheckRefusal, check};
 use std::alloc::Global;
 
-/// The number of a refusal.
+/// Returns the code of a refusal.
 fn code_of(refusal: CheckRefusal) -> i64
     ensures { result ≡ certificate_code refusal }
 {
     -100 - i64::from(refusal.number())
 }
 
-/// The number that says a verdict.
+/// Returns the code of a verdict.
 fn number_of(verdict: Result<u32, CheckRefusal>) -> i64
     ensures { result ≡ check_code verdict }
 {
@@ -31,8 +31,8 @@ fn number_of(verdict: Result<u32, CheckRefusal>) -> i64
     }
 }
 
-/// How many entries the certificate holds, where it is right for the map of the settings. A negative number is a refusal: of
-/// a setting or of memory, as that of `pmpmon_plan`, or of the certificate.
+/// Returns the number of entries in a certificate that is right for the settings' map. A negative number is a refusal:
+/// of a setting or an allocation, as for `pmpmon_plan`, or of the certificate.
 #[unsafe(no_mangle)]
 pub extern "C" fn pmpmon_check(
     alloc: Global,

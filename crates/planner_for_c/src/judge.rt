@@ -1,4 +1,4 @@
-//! What C calls for the judgement of an access.
+//! The C function that judges an access.
 
 ghost use Rattle.std.specs.Prelude.{◌≡◌, ◌≤◌, ◌<◌, ℕ, List, length, min, IfErr, IfOk, Result};
 ghost use Rattle.pmp_encoding.specs.declared.fault.EncodingFault.{EncodingFault};
@@ -19,7 +19,7 @@ use arrayvec::ArrayVec;
 use pmp_encoding::{Bank, EncodingFault, Entry, Limit, decode};
 use pmp_match::{Access, Cause, judge};
 
-/// Byte j of a word, the lowest first.
+/// Returns byte j of a word, where byte 0 is the lowest.
 fn byte_of(word: u64, j: usize) -> u8
     requires { j < 8 }
     ensures { result ≡ byte_of word j }
@@ -27,7 +27,7 @@ fn byte_of(word: u64, j: usize) -> u8
     ((word >> (8 * j)) % 256) as u8
 }
 
-/// The entries of the first pairs of the registers, or the fault of the first pair that has one.
+/// Decodes the first `count` pairs of the registers, or returns the fault of the first invalid pair.
 fn entries_of(registers: &Registers, count: usize) -> Result<ArrayVec<Entry, 64>, EncodingFault>
     requires { count ≤ 64 }
     ensures list { IfOk result (λ entries.
@@ -46,7 +46,7 @@ fn entries_of(registers: &Registers, count: usize) -> Result<ArrayVec<Entry, 64>
     Ok(entries)
 }
 
-/// The outcome of the access under these entries.
+/// Returns the outcome of the access under these entries.
 fn outcome_of(entries: &[Entry], access: &Access) -> i64
     requires { length entries.now ≤ 64 }
     ensures { (answer : Result (Unit {0}) Cause) × Judges entries.now access.now answer
@@ -59,7 +59,7 @@ fn outcome_of(entries: &[Entry], access: &Access) -> i64
     }
 }
 
-/// The number of a pair's fault.
+/// Returns the code of a pair's fault.
 fn code_of(fault: EncodingFault) -> i64
     ensures { result ≡ pair_code fault }
 {
@@ -73,8 +73,9 @@ fn code_of(fault: EncodingFault) -> i64
     }
 }
 
-/// The outcome of the access on a hart with `entries` entries that has loaded the registers: 64 where it is allowed, otherwise the
-/// exception code. A negative number is a refusal: no such access is there, or a pair of the registers has a fault.
+/// Returns the outcome of the access on a hart with `entries` entries that has loaded the registers: 64 if it is
+/// allowed, otherwise the exception code. A negative number is a refusal: the access is invalid, or a pair of the
+/// registers has a fault.
 #[unsafe(no_mangle)]
 pub extern "C" fn pmpmon_judge(registers: &Registers, entries: u64, access: &AccessWords) -> i64
     ensures judged { IsJudged registers.now (min entries 64) access.now result }

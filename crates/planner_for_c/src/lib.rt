@@ -1,7 +1,7 @@
-//! The planner, the checker and the judge for programs in C and for firmware, as `include/pmpmon.h` declares them.
+//! The planner, the checker and the judge for programs in C and for firmware, declared in `include/pmpmon.h`.
 //!
-//! Each parameter and each result is of 64 bits, since what is lowered here is also compiled for RV64, whose calling
-//! convention wants the upper half of each shorter number in a form that nothing here makes.
+//! All parameters and results have 64 bits, because the lowered code is also compiled for RV64, whose calling
+//! convention requires shorter numbers to be extended in a way that the lowered code does not guarantee.
 //!
 //! ```c
 //! int64_t needed = pmpmon_plan(settings, 2, 16, &registers, &at_fault);

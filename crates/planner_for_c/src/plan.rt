@@ -1,4 +1,4 @@
-//! What C calls for a plan.
+//! The C functions that plan.
 
 ghost use Rattle.std.specs.Prelude.{◌≡◌, ◌⊎◌, ℕ, List, [], IfOk, IfErr, Err, pos, length};
 ghost use Rattle.pmp_match.specs.Meaning.{Needs};
@@ -15,7 +15,7 @@ use entry_planner::{Plan, plan_map};
 use pmp_encoding::PackedEntry;
 use std::alloc::Global;
 
-/// The plan of the map that the settings make.
+/// Plans the map that the settings make.
 fn plan_of(alloc: Global, settings: &[Setting]) -> Result<Plan<PackedEntry>, NoMap>
     ensures plan { IfOk result (λ plan. IsPlanOf settings.now plan.entries) }
     ensures fault { (i : ℕ) (fault : SettingFault) → result ≡ Err (NoMap.Setting i fault)
@@ -28,8 +28,8 @@ fn plan_of(alloc: Global, settings: &[Setting]) -> Result<Plan<PackedEntry>, NoM
     Ok(plan)
 }
 
-/// How many entries the settings need, and where these are at most `entries` and at most 64, their registers. A negative
-/// number is a refusal: of the setting whose number, from 0, goes to `at_fault`, or of memory.
+/// Returns the number of entries that the settings need, and stores the registers if it is at most `entries` and at
+/// most 64. A negative number is a refusal: of a setting, whose index is stored in `at_fault`, or of an allocation.
 #[unsafe(no_mangle)]
 pub extern "C" fn pmpmon_plan(
     alloc: Global,
@@ -57,7 +57,7 @@ pub extern "C" fn pmpmon_plan(
     i64::from(needed)
 }
 
-/// How many entries the settings need. A negative number is a refusal, as that of `pmpmon_plan`.
+/// Returns the number of entries that the settings need. A negative number is a refusal, as for `pmpmon_plan`.
 #[unsafe(no_mangle)]
 pub extern "C" fn pmpmon_needed(alloc: Global, settings: &[Setting], at_fault: &mut u64) -> i64
     ensures needed { IsNumberOf settings.now at_fault.old at_fault.new result }

@@ -1,4 +1,4 @@
-//! The PMP registers as C has them.
+//! The PMP registers in C's layout.
 
 ghost use Rattle.std.specs.Prelude.{◌≡◌, ◌*◌, ◌<◌, ◌≤◌, ℕ, length, slice_index};
 ghost use Rattle.pmp_encoding.specs.Banks.{address_at, word_at};
@@ -10,7 +10,7 @@ use pmp_encoding::{Bank, Limit, PackedEntry};
 #[repr(C)]
 #[derive(Clone, Copy, Drop)]
 pub struct Registers {
-    /// pmpcfg0, pmpcfg2, .. pmpcfg14: the word of number i is pmpcfg(2 * i).
+    /// pmpcfg0, pmpcfg2, .. pmpcfg14: word i is pmpcfg(2 * i).
     pub cfg: [u64; 8],
     /// pmpaddr0 to pmpaddr63.
     pub addr: [u64; 64],
@@ -33,7 +33,7 @@ fn put_addresses(bank: &Bank, addr: &mut [u64; 64])
 }
 
 impl Registers {
-    /// Makes them those of the entries, each in its canonical pair, and zero past them.
+    /// Stores the entries as their canonical pairs, and zero after them.
     pub(crate) fn put(&mut self, entries: &[PackedEntry])
         requires { length entries.now ≤ 64 }
         ensures { HoldsList self.new entries.now }

@@ -1,4 +1,4 @@
-//! Settings as C has them, and the map that they make one after another.
+//! Settings in C's layout, and the map that they make one after another.
 
 ghost use Rattle.std.specs.Prelude.{◌≡◌, ◌≢◌, ℕ, List, [], IfErr, IfNone, IfOk, IfSome, OnOk, Err, ◌⊎◌};
 ghost use Rattle.pmp_encoding.specs.declared.perm.Perm.{Perm};
@@ -12,7 +12,7 @@ use permission_map::{MapFault, PermissionMap};
 use pmp_encoding::{PAGE_SIZE, Perm};
 use std::alloc::Global;
 
-/// A permission of supervisor and user on whole pages. A later setting overrides an earlier one.
+/// A permission of supervisor and user mode on whole pages. A later setting overrides an earlier one.
 #[repr(C)]
 #[derive(Clone, Copy)]
 pub struct Setting {
@@ -24,39 +24,39 @@ pub struct Setting {
     pub perm: u64,
 }
 
-/// Why a setting is refused. Of several the first is named.
+/// The reason why a setting is refused. If several apply, it is the first.
 #[derive(Clone, Copy)]
 pub enum SettingFault {
-    /// The base is no multiple of 4096.
+    /// The base is not a multiple of 4096.
     UnalignedBase,
-    /// The size is no multiple of 4096.
+    /// The size is not a multiple of 4096.
     UnalignedSize,
-    /// The number is no permission.
+    /// The number does not encode a permission.
     UnknownPerm,
-    /// The last byte is past the space of 2^56.
+    /// The last byte is at or above 2^56.
     PastEnd,
     /// The map would have more than 4096 ranges.
     TooManyRanges,
 }
 
-/// Why one setting is not done.
+/// The reason why one setting is not applied.
 #[derive(Clone, Copy)]
 enum Unset {
     Fault(SettingFault),
     Memory,
 }
 
-/// Why settings make no map.
+/// The reason why settings make no map.
 #[derive(Clone, Copy)]
 pub(crate) enum NoMap {
-    /// The setting of this number, from 0, is refused.
+    /// The setting of this index is refused.
     Setting(usize, SettingFault),
-    /// Memory was refused.
+    /// An allocation failed.
     Memory,
 }
 
 impl NoMap {
-    /// The number that says it. The number of a refused setting goes to `at_fault`.
+    /// Returns the code of the refusal, and stores the index of a refused setting in `at_fault`.
     pub(crate) fn report(self, at_fault: &mut u64) -> i64
         ensures code { result ≡ refusal_code self }
         ensures place { at_fault.new ≡ place_of self at_fault.old }
@@ -85,7 +85,7 @@ impl SettingFault {
     }
 }
 
-/// The permission of these bits.
+/// Returns the permission with these bits.
 fn perm_of(bits: u64) -> Option<Perm>
     ensures some { IfSome result (λ perm. bits_of perm ≡ bits) }
     ensures none { IfNone result ((perm : Perm) → bits_of perm ≢ bits) }
@@ -96,7 +96,7 @@ fn perm_of(bits: u64) -> Option<Perm>
     Perm::from_bits(bits as u8)
 }
 
-/// Does to the map what a setting says, or leaves it as it was.
+/// Applies a setting to the map, or leaves the map unchanged.
 fn set(map: &mut PermissionMap, setting: &Setting) -> Result<(), Unset>
     ensures done { OnOk result (Sets map.old setting.now map.new) }
     ensures fault { (fault : SettingFault) → result ≡ Err (Unset.Fault fault)
@@ -119,7 +119,7 @@ fn set(map: &mut PermissionMap, setting: &Setting) -> Result<(), Unset>
     }
 }
 
-/// The map that the settings make one after another, from one that gives no permission.
+/// Applies the settings one after another to a map without any permission.
 pub(crate) fn map_of(alloc: Global, settings: &[Setting]) -> Result<PermissionMap, NoMap>
     ensures made { IfOk result (LeadTo [] settings.now) }
     ensures fault { (i : ℕ) (fault : SettingFault) → result ≡ Err (NoMap.Setting i fault)

@@ -1,8 +1,7 @@
--- Lists of checks, in the order in which they are looked at.
+-- Lists of checks in order.
 use Rattle.std.specs.Prelude.{◌≡◌, List, [], ◌∷◌, ⊤, ◌⊎◌}
 
--- each check of a list passes. A check is what it asks, and before it the refusal or the fault
--- where that does not hold
+-- each check of a list passes. A check is a refusal or a fault, followed by its condition
 abbrev pub AllPass : {F : Type 0} → List (F × Type 0) → Type 0
 AllPass [] = ⊤
 AllPass (check ∷ checks) = check.1 × AllPass checks

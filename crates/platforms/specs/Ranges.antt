@@ -1,21 +1,21 @@
--- Ranges of whole pages, each given by the address of its first byte and the number of its bytes.
+-- Ranges of whole pages, each given as a base and a size in bytes.
 use Rattle.std.specs.Prelude.{◌≡◌, ℕ, ◌+◌, ◌/◌, ◌%◌, ◌^◌, ◌<◌, ◌≤◌, Bool, true, List, [], ◌∷◌, ⊤}
 use Rattle.std.specs.List.{All, list_any}
 use Rattle.pmp_encoding.specs.declared.perm.Perm.{Perm}
 use Rattle.pmp_encoding.specs.Views.{in_range}
 
--- whole pages, at least one, all below 2 ^ 56
+-- the range consists of whole pages, at least one, all below 2 ^ 56
 pub record IsRange (range : ℕ × ℕ) : Type 0 where
   pub begins : range.0 % 4096 ≡ 0
   pub whole : range.1 % 4096 ≡ 0
   pub some : 0 < range.1
   pub inside : range.0 + range.1 ≤ 2 ^ 56
 
--- whether a page is one of the range's
+-- the range contains the page
 abbrev pub has_page : (ℕ × ℕ) → ℕ → Bool
 has_page range page = in_range (range.0 / 4096) (range.1 / 4096) page
 
--- the range of a device that is given with its permission
+-- the range of a device
 abbrev pub device_range : (ℕ × ℕ × Perm) → ℕ × ℕ
 device_range device = (device.0, device.1)
 

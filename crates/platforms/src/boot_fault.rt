@@ -1,19 +1,19 @@
-//! Why a platform is not booted.
+//! Reasons why a platform cannot be booted.
 
 ghost use Rattle.std.specs.Prelude.{◌≡◌};
 ghost use Rattle.platforms.specs.BootFaults.{boot_fault_number};
 
-/// Why a platform is not booted.
+/// The reason why a platform cannot be booted.
 #[derive(Clone, Copy, Debug)]
 pub enum BootFault {
-    /// What it leaves the host needs that many entries, more than a hart has.
+    /// The host's view needs this many entries, more than a hart has.
     NeedsMoreEntries(u64),
-    /// A growth was refused.
+    /// An allocation failed.
     Memory,
 }
 
 impl BootFault {
-    /// Its number, 1 or 2.
+    /// Returns the number, 1 or 2.
     pub fn number(self) -> u8
         ensures { result ≡ boot_fault_number self }
     {

@@ -1,12 +1,12 @@
-//! A platform: the ranges of memory, the devices, the monitor's own range, how many harts there are and how many PMP
-//! entries each has.
+//! A platform: the ranges of memory, the devices, the monitor's own range, the number of harts, and their number of PMP
+//! entries.
 //!
-//! A [`Platform`] keeps its rules: whole pages, no two ranges with a page in common, a monitor that lies in memory, and
-//! one to four harts. It takes no memory. It knows what it allows on each page, as a map: everything in memory, on a
-//! device what is said of it, and nothing on the monitor's pages and elsewhere.
+//! A [`Platform`] satisfies these rules: its ranges consist of whole pages, no two of them have a page in common, the
+//! monitor lies in memory, and there are one to four harts. It does not allocate. It gives each page a permission, as a
+//! map: everything in memory, the given permission on a device, and nothing on the monitor's pages and elsewhere.
 //!
-//! The contract for the layer above: [`Platform::new`] answers a platform exactly where the rules hold, and otherwise
-//! the fault of the least number that applies. [`Platform::permissions`] and [`set_pages`] take memory.
+//! Contract for the layer above: [`Platform::new`] returns a platform iff the rules hold, and otherwise the applicable
+//! fault of the lowest number. [`Platform::permissions`] and [`set_pages`] allocate.
 //!
 //! ```
 //! let platform = Platform::new(monitor, &ram, &devices)?.with_entries(64)?;

@@ -1,4 +1,4 @@
-//! What a platform allows on each page, as a map.
+//! The permission of each page of a platform, as a map.
 
 ghost use Rattle.std.specs.Prelude.{◌≡◌, ◌+◌, ◌^◌, ◌≤◌, [], cond, length, IfOk, OnOk};
 ghost use Rattle.std.specs.List.{All, list_any};
@@ -13,8 +13,8 @@ use permission_map::{MapFault, Memory, PermissionMap};
 use pmp_encoding::{PageRange, Perm};
 use std::alloc::{AllocError, Global};
 
-/// Sets the permission of some pages of a map that is far from having too many ranges, so that only a lack of memory can
-/// refuse it.
+/// Sets the permission of some pages of a map that has far fewer than the maximum number of ranges, so that it fails
+/// only if an allocation fails.
 pub fn set_pages(map: &mut PermissionMap, pages: PageRange, perm: Perm) -> Result<(), Memory>
     requires inside { pages.first + pages.count ≤ 2 ^ 44 }
     requires few { length map.old ≤ 4000 }
@@ -31,7 +31,7 @@ pub fn set_pages(map: &mut PermissionMap, pages: PageRange, perm: Perm) -> Resul
     }
 }
 
-/// Sets what each device allows; where two have a page in common, the first counts.
+/// Sets the permission of each device; if two have a page in common, the first takes precedence.
 fn put_devices(perms: &mut PermissionMap, devices: &[(u64, u64, Perm)]) -> Result<(), Memory>
     requires empty { perms.old ≡ [] }
     requires ranges { All (λ device. IsRange (device_range device)) devices.now }
@@ -68,7 +68,7 @@ fn put_memory(perms: &mut PermissionMap, ram: &[(u64, u64)]) -> Result<(), Memor
 }
 
 impl Platform {
-    /// What the platform allows on each page that is not the monitor's.
+    /// Returns the permissions of the platform, with none on the monitor's pages.
     pub fn permissions(&self, alloc: Global) -> Result<PermissionMap, Memory>
         ensures view { IfOk result (λ map.
             SameView (view_of_runs map) (λ page.

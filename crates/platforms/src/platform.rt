@@ -1,4 +1,4 @@
-//! A platform: where memory, devices and the monitor are.
+//! A platform: the locations of memory, devices and the monitor.
 
 ghost use Rattle.std.specs.Prelude.{◌≡◌, ◌≢◌, ◌<◌, ◌≤◌, ◌+◌, ◌/◌, ◌^◌, ◌↔◌, IsTrue, IfOk, IfErr, length};
 ghost use Rattle.std.specs.List.{All};
@@ -13,28 +13,28 @@ use arrayvec::ArrayVec;
 use pmp_encoding::{Limit, PAGE_SIZE, PageRange, Perm};
 use std::marker::Model;
 
-/// The most ranges of memory, and the most devices.
+/// Maximum number of ranges of memory, and of devices.
 const MOST: usize = 32;
 
-/// Why ranges or numbers are no platform: the least fault that applies.
+/// The reason why ranges or numbers do not form a platform: the applicable fault of the lowest number.
 #[derive(Clone, Copy, PartialEq, Eq, Debug)]
 pub enum PlatformFault {
-    /// A base or a size is no multiple of 4096, a size is zero, or a range ends above 2^56.
+    /// A base or a size is not a multiple of 4096, a size is zero, or a range ends above 2^56.
     BadRange = 1,
     /// Two of the memory and device ranges have a page in common.
     Overlap = 2,
-    /// A page of the monitor is not memory.
+    /// A page of the monitor is not in memory.
     MonitorNotRam = 3,
     /// There is no range of memory, or more than 32, or more than 32 devices.
     BadNumber = 4,
-    /// Not one to four harts.
+    /// There are not one to four harts.
     BadHarts = 5,
-    /// Neither sixteen nor sixty-four entries.
+    /// The number of entries is neither 16 nor 64.
     BadEntries = 6,
 }
 
 impl PlatformFault {
-    /// Its number, from 1 to 6.
+    /// Returns the number, from 1 to 6.
     pub fn number(self) -> u8
         ensures { result ≡ platform_fault_number self }
     {
@@ -42,8 +42,8 @@ impl PlatformFault {
     }
 }
 
-/// Where memory, devices and the monitor are, how many harts there are and how many PMP entries each has. It takes no
-/// memory. Contracts see it as its `PlatformLayout`.
+/// The locations of memory, devices and the monitor, the number of harts, and their number of PMP entries. It does not
+/// allocate. Contracts see it as its `PlatformLayout`.
 #[derive(Drop)]
 pub struct Platform {
     monitor: (u64, u64),
@@ -63,7 +63,7 @@ impl Model for Platform {
     ghost invariant = { λ p. IsLayout (record { monitor = p.monitor; ram = p.ram.items; devices = p.devices.items; harts = p.harts; limit = p.limit }) };
 }
 
-/// Whether each range is of whole pages, at least one, below 2^56.
+/// Returns whether each range consists of whole pages, at least one, below 2^56.
 fn are_ranges(monitor: (u64, u64), ram: &[(u64, u64)], devices: &[(u64, u64, Perm)]) -> bool
     ensures { IsTrue result ↔ (IsRange monitor × All IsRange ram.now
         × All (λ device. IsRange (device_range device)) devices.now) }
@@ -71,7 +71,7 @@ fn are_ranges(monitor: (u64, u64), ram: &[(u64, u64)], devices: &[(u64, u64, Per
     is_range(monitor) && all_ranges(ram) && devices_on_ranges(devices)
 }
 
-/// Whether there is memory, and no list is too long.
+/// Returns whether there is memory, and neither list is too long.
 fn are_few(ram: &[(u64, u64)], devices: &[(u64, u64, Perm)]) -> bool
     ensures { IsTrue result ↔ ((0 < length ram.now) × (length ram.now ≤ 32)
         × (length devices.now ≤ 32)) }
@@ -79,7 +79,7 @@ fn are_few(ram: &[(u64, u64)], devices: &[(u64, u64, Perm)]) -> bool
     !ram.is_empty() && ram.len() <= MOST && devices.len() <= MOST
 }
 
-/// The items, in an array with room for 32.
+/// Copies the items into an array with room for 32.
 fn to_array<T: Copy + Default>(items: &[T]) -> ArrayVec<T, 32>
     requires { length items.now ≤ 32 }
     ensures { result.items ≡ items.now }
@@ -92,17 +92,18 @@ fn to_array<T: Copy + Default>(items: &[T]) -> ArrayVec<T, 32>
 }
 
 impl Platform {
-    /// Does nothing: a proof that needs what is true of every platform cites it by this call.
+    /// Does nothing: a proof cites the invariant of every platform by this call.
     pub fn cite_invariant(&self)
         ensures { IsLayout self.now }
     {
         let _harts = self.harts;
     }
 
-    /// The platform with the monitor in that range, and memory and devices in these: each is its base and its size, in
-    /// bytes, and a device has a permission. It has one hart of sixteen entries.
+    /// Returns the platform with the monitor in that range, and these memory ranges and devices. A range is its base
+    /// and its size in bytes; a device also has a permission. The platform has one hart with sixteen entries.
     ///
-    /// Refused with the least of the faults [`PlatformFault::BadRange`] to [`PlatformFault::BadNumber`] that applies.
+    /// Fails with the applicable fault of the lowest number from [`PlatformFault::BadRange`] to
+    /// [`PlatformFault::BadNumber`].
     pub fn new(
         monitor: (u64, u64),
         ram: &[(u64, u64)],
@@ -141,7 +142,7 @@ impl Platform {
         })
     }
 
-    /// The same platform with that many harts, one to four.
+    /// Returns the platform with this number of harts, one to four.
     pub fn with_harts(self, harts: u8) -> Result<Platform, PlatformFault>
         ensures value { IfOk result (λ p. (0 < harts) × (harts ≤ 4)
             × (p ≡ record self { harts = harts })) }
@@ -156,7 +157,7 @@ impl Platform {
         Ok(platform)
     }
 
-    /// The same platform with that many PMP entries to a hart, 16 or 64.
+    /// Returns the platform with this number of PMP entries for each hart, 16 or 64.
     pub fn with_entries(self, entries: u8) -> Result<Platform, PlatformFault>
         ensures value { IfOk result (λ p.
             (limit_number p.limit ≡ entries) × (p ≡ record self { limit = p.limit })) }
@@ -171,7 +172,7 @@ impl Platform {
         Ok(platform)
     }
 
-    /// How many harts there are.
+    /// Returns the number of harts.
     pub fn harts(&self) -> u8
         ensures value { result ≡ self.now.harts }
         ensures some { 0 < self.now.harts }
@@ -180,14 +181,14 @@ impl Platform {
         self.harts
     }
 
-    /// How many PMP entries each hart has.
+    /// Returns the number of PMP entries of each hart.
     pub fn limit(&self) -> Limit
         ensures { result ≡ self.now.limit }
     {
         self.limit
     }
 
-    /// The pages of the monitor.
+    /// Returns the pages of the monitor.
     pub fn monitor_pages(&self) -> PageRange
         ensures value { result ≡ record {
           first = self.now.monitor.0 / 4096;
@@ -199,7 +200,7 @@ impl Platform {
         PageRange::of_bytes(self.monitor.0, self.monitor.1)
     }
 
-    /// Whether all of the pages are memory.
+    /// Returns whether all of the pages are memory.
     pub fn has_memory(&self, pages: PageRange) -> bool
         requires { pages.first + pages.count < 2 ^ 64 }
         ensures { IsTrue result ↔ AreAmong self.now.ram pages.first pages.count }

@@ -1,4 +1,4 @@
-//! Ranges of a platform: whole pages inside the space, apart from one another.
+//! Ranges of a platform: whole pages inside the space, without pages in common.
 
 ghost use Rattle.std.specs.Prelude.{◌≡◌, ◌+◌, ◌^◌, ◌<◌, ◌≤◌, ◌↔◌, ℕ, ◌++◌, IsTrue, IfSome, IfNone, true, false, map};
 ghost use Rattle.std.specs.List.{All, list_any};
@@ -6,7 +6,7 @@ ghost use Rattle.platforms.specs.Ranges.{IsRange, AreRangesApart, EachApart, Are
 
 use pmp_encoding::{PAGE_SIZE, PageRange, Perm, SPACE_SIZE};
 
-/// Whether the range is of whole pages, at least one, below 2^56. A range is its base and its size, in bytes.
+/// Returns whether the range, a base and a size in bytes, consists of whole pages, at least one, below 2^56.
 pub(crate) fn is_range(range: (u64, u64)) -> bool
     ensures { IsTrue result ↔ IsRange range }
 {
@@ -18,21 +18,21 @@ pub(crate) fn is_range(range: (u64, u64)) -> bool
         && size <= SPACE_SIZE - base
 }
 
-/// Whether each of them is such a range.
+/// Returns whether all are such ranges.
 pub(crate) fn all_ranges(ranges: &[(u64, u64)]) -> bool
     ensures { IsTrue result ↔ All IsRange ranges.now }
 {
     ranges.iter().all(|range| is_range(*range))
 }
 
-/// Whether each of the devices is on such a range.
+/// Returns whether the range of each device is such a range.
 pub(crate) fn devices_on_ranges(devices: &[(u64, u64, Perm)]) -> bool
     ensures { IsTrue result ↔ All (λ device. IsRange (device_range device)) devices.now }
 {
     devices.iter().all(|device| is_range((device.0, device.1)))
 }
 
-/// Whether two ranges have no page in common.
+/// Returns whether two ranges have no page in common.
 fn are_apart(range: (u64, u64), other: (u64, u64)) -> bool
     ensures { IsTrue result ↔ AreRangesApart range other }
 {
@@ -40,14 +40,14 @@ fn are_apart(range: (u64, u64), other: (u64, u64)) -> bool
     pages.is_apart_from(PageRange::of_bytes(other.0, other.1))
 }
 
-/// Whether a range has no page in common with any of the others.
+/// Returns whether a range has no page in common with any of the others.
 fn is_clear(range: (u64, u64), others: &[(u64, u64)]) -> bool
     ensures { IsTrue result ↔ All (AreRangesApart range) others.now }
 {
     others.iter().all(|other| are_apart(range, *other))
 }
 
-/// Whether a range has no page in common with any of the devices.
+/// Returns whether a range has no page in common with any of the devices.
 fn is_clear_of_devices(range: (u64, u64), devices: &[(u64, u64, Perm)]) -> bool
     ensures { IsTrue result ↔ All (λ device.
         AreRangesApart range (device_range device)) devices.now }
@@ -57,7 +57,7 @@ fn is_clear_of_devices(range: (u64, u64), devices: &[(u64, u64, Perm)]) -> bool
         .all(|device| are_apart(range, (device.0, device.1)))
 }
 
-/// Whether no two of the devices have a page in common.
+/// Returns whether no two of the devices have a page in common.
 fn devices_apart(devices: &[(u64, u64, Perm)]) -> bool
     ensures { IsTrue result ↔ EachApart (map device_range devices.now) }
 {
@@ -69,7 +69,7 @@ fn devices_apart(devices: &[(u64, u64, Perm)]) -> bool
     true
 }
 
-/// Whether no two of all the ranges and devices have a page in common.
+/// Returns whether no two of all the ranges and devices have a page in common.
 pub(crate) fn each_apart(ranges: &[(u64, u64)], devices: &[(u64, u64, Perm)]) -> bool
     ensures { IsTrue result ↔ EachApart (ranges.now ++ map device_range devices.now) }
 {
@@ -81,7 +81,7 @@ pub(crate) fn each_apart(ranges: &[(u64, u64)], devices: &[(u64, u64, Perm)]) ->
     devices_apart(devices)
 }
 
-/// Where the range ends that has the page.
+/// Returns the end of the range that contains the page.
 fn end_at(ranges: &[(u64, u64)], page: u64) -> Option<u64>
     ensures behind { IfSome result (λ end. page < end) }
     ensures covered { IfSome result (λ end.
@@ -97,7 +97,7 @@ fn end_at(ranges: &[(u64, u64)], page: u64) -> Option<u64>
     None
 }
 
-/// Whether each of the pages is in one of the ranges. They may go over several ranges that touch.
+/// Returns whether each of the pages is in one of the ranges. The pages may span several adjacent ranges.
 pub(crate) fn are_among(ranges: &[(u64, u64)], first: u64, count: u64) -> bool
     requires { first + count < 2 ^ 64 }
     ensures { IsTrue result ↔ AreAmong ranges.now first count }

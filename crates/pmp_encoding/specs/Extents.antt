@@ -1,11 +1,11 @@
--- The entries of a bank as accesses are matched against them.
+-- The extents of a bank's entries, against which accesses are matched.
 use Rattle.std.specs.Prelude.{◌≡◌, ℕ, ◌+◌, ◌^◌, ◌≤◌, List, length, take, map}
 use Rattle.pmp_encoding.specs.declared.extent.Extent.{Extent}
 use Rattle.pmp_encoding.specs.declared.region.Entry.{Entry}
 use Rattle.pmp_encoding.specs.Lists.{MeansList}
 use Rattle.pmp_encoding.specs.Registers.{pairs_from}
 
--- the addresses of an entry's region, and its permission
+-- the range of addresses of an entry's region, with its permission
 abbrev pub extent_of : Entry → Extent
 extent_of e = record {
   base = e.region.base;
@@ -13,8 +13,7 @@ extent_of e = record {
   perm = e.perm;
 }
 
--- the first `used` of the extents are those of the entries that the pairs below `count` mean, in
--- order
+-- the first `used` extents are those of the entries that the pairs below `count` mean, in order
 pub record AreExtents (words addresses : List ℕ) (count : ℕ) (extents : List Extent) (used : ℕ) :
     Type 0 where
   pub room : used ≤ length extents

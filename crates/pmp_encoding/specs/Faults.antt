@@ -1,4 +1,4 @@
--- Which pairs mean nothing, and the fault that is named where several are in one pair.
+-- Faults of register pairs, and the fault that is reported if a pair has several.
 use Rattle.std.specs.Prelude.{◌≡◌, ◌≢◌, ℕ, ◌/◌, ◌%◌, ◌^◌, ◌<◌, ◌≤◌}
 use Rattle.pmp_encoding.specs.declared.fault.EncodingFault.{EncodingFault}
 use Rattle.pmp_encoding.specs.declared.fault.EncodingFault.TheVariants.{ReservedPerm, Tor, Locked}
@@ -14,8 +14,8 @@ fault_number ReservedBits = 4
 fault_number AddressBits = 5
 fault_number NoSuchCsr = 6
 
--- the pair has the fault: W (bit 1) without R (bit 0); mode 1, TOR, in bits 4:3; L, bit 7; a bit of
--- 6:5; an address register with a bit above 53. That a CSR is not there is no fault of a pair
+-- the pair has the fault: W (bit 1) without R (bit 0); mode 1, TOR, in bits 4:3; L, bit 7; a
+-- nonzero bit of 6:5; an address register with a nonzero bit above 53. A pair never has `NoSuchCsr`
 abbrev pub HasFault : EncodingFault → ℕ → ℕ → Type 0
 HasFault ReservedPerm cfg address = (cfg / 2 % 2 ≡ 1) × (cfg % 2 ≡ 0)
 HasFault Tor cfg address = cfg / 8 % 4 ≡ 1
@@ -24,12 +24,12 @@ HasFault ReservedBits cfg address = cfg / 32 % 4 ≢ 0
 HasFault AddressBits cfg address = 2 ^ 54 ≤ address
 HasFault NoSuchCsr cfg address = ⊥
 
--- a configuration byte and an address register that have no fault
+-- the configuration byte and the address register have no fault
 pub record IsFaultless (cfg address : ℕ) : Type 0 where
   pub byte : cfg < 256
   pub none : (fault : EncodingFault) → ¬ HasFault fault cfg address
 
--- the pair has the fault, and none of a lesser number
+-- the pair has the fault and no fault of a lower number
 pub record IsLeastFault (cfg address : ℕ) (fault : EncodingFault) : Type 0 where
   pub has : HasFault fault cfg address
   pub least : (other : EncodingFault) → HasFault other cfg address

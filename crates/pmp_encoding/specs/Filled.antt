@@ -1,11 +1,11 @@
--- Registers that are filled with entries, place by place.
+-- Registers filled with entries, one by one.
 use Rattle.std.specs.Prelude.{◌≡◌, ℕ, ◌-◌, ◌*◌, ◌^◌, ◌<◌, ◌≤◌, List, length, Some, slice_get}
 use Rattle.std.specs.Prelude.{slice_index}
 use Rattle.pmp_encoding.specs.declared.region.Entry.{Entry}
 use Rattle.pmp_encoding.specs.Encoding.{cfg_of, address_of}
 use Rattle.pmp_encoding.specs.Registers.{cfg_byte}
 
--- the first n places hold the canonical pairs of the first n entries, and nothing is above them
+-- the first n pairs are the canonical pairs of the first n entries, and all others are zero
 pub record IsFilled (entries : List Entry) (words addresses : List ℕ) (n : ℕ) : Type 0 where
   pub eight : length words ≡ 8
   pub many : length addresses ≡ 64
@@ -14,6 +14,6 @@ pub record IsFilled (entries : List Entry) (words addresses : List ℕ) (n : ℕ
   pub words_above : (w : ℕ) → slice_index words w < 2 ^ (8 * (n - 8 * w))
   pub addresses_above : (i : ℕ) → n ≤ i → slice_index addresses i ≡ 0
 
--- address registers that are all zero
+-- all address registers are zero
 abbrev pub AreZero : List ℕ → Type 0
 AreZero addresses = (length addresses ≡ 64) × ((i : ℕ) → slice_index addresses i ≡ 0)

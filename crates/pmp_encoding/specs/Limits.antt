@@ -1,4 +1,4 @@
--- How many entries a bank has.
+-- The number of entries of a bank.
 use Rattle.std.specs.Prelude.{ℕ}
 use Rattle.pmp_encoding.specs.declared.limit.Limit.{Limit}
 use Rattle.pmp_encoding.specs.declared.limit.Limit.TheVariants.{Sixteen, SixtyFour}

@@ -1,5 +1,5 @@
--- An entry as one number: three bits of its permission, six of its size, and a quarter of its
--- lowest address.
+-- An entry as one number: the permission in three bits, the size in six, and above them a quarter
+-- of the lowest address.
 use Rattle.std.specs.Prelude.{◌≡◌, ℕ, ◌*◌, ◌/◌, ◌%◌}
 use Rattle.pmp_encoding.specs.declared.region.Entry.{Entry}
 use Rattle.pmp_encoding.specs.Block.{IsBlock}
@@ -13,15 +13,15 @@ base_in n = n / 512 * 4
 abbrev pub log2_in : ℕ → ℕ
 log2_in n = n / 8 % 64
 
--- the number's block is one that an entry can have
+-- the number's block is a valid region
 abbrev pub HasBlock : ℕ → Type 0
 HasBlock n = IsBlock (base_in n) (log2_in n)
 
--- the number's bits are those of a permission
+-- the number's low bits are those of a permission
 abbrev pub HasBits : ℕ → Type 0
 HasBits n = bits_of (perm_for (n % 8)) ≡ n % 8
 
--- the entry
+-- the entry that the number encodes
 abbrev pub entry_in : (n : ℕ) → HasBlock n → Entry
 entry_in n block = record {
   region = record { base = base_in n; log2 = log2_in n; block = block };

@@ -5,7 +5,7 @@ use Rattle.pmp_encoding.specs.declared.limit.Limit.{Limit}
 use Rattle.pmp_encoding.specs.Limits.{limit_number}
 use Rattle.pmp_encoding.specs.Faults.{IsFaultless}
 
--- byte j of a word, the lowest first
+-- byte j of a word, counted from the lowest
 abbrev pub byte_of : ℕ → ℕ → ℕ
 byte_of word j = word / 2 ^ (8 * j) % 256
 
@@ -13,13 +13,13 @@ byte_of word j = word / 2 ^ (8 * j) % 256
 abbrev pub cfg_byte : List ℕ → ℕ → ℕ
 cfg_byte words i = byte_of (slice_index words (i / 8)) (i % 8)
 
--- the pairs of the entries from `first` on, `count` of them
+-- the pairs of `count` entries from `first` on
 abbrev pub pairs_from : List ℕ → List ℕ → ℕ → ℕ → List (ℕ × ℕ)
 pairs_from words addresses first zero = []
 pairs_from words addresses first (suc count) = (cfg_byte words first, slice_index addresses first)
     ∷ pairs_from words addresses (suc first) count
 
--- what a bank may hold: no pair has a fault, and from the limit on all is zero
+-- valid registers of a bank: no pair has a fault, and all pairs from the limit on are zero
 pub record AreRegisters (limit : Limit) (words addresses : List ℕ) : Type 0 where
   pub faultless : (i : ℕ) → i < 64 → IsFaultless (cfg_byte words i) (slice_index addresses i)
   pub unused : (i : ℕ) → limit_number limit ≤ i → i < 64 → (cfg_byte words i ≡ 0)

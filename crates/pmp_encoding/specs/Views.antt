@@ -1,20 +1,20 @@
--- Views: a permission for each page.
+-- Views, which give each page a permission.
 use Rattle.std.specs.Prelude.{◌≡◌, ℕ, ◌+◌, ◌^◌, ◌<◌, Bool, ◌&&◌, nat_le, nat_lt, cond}
 use Rattle.pmp_encoding.specs.declared.perm.Perm.{Perm}
 
--- a permission for each page, by its number: the address of a byte divided by 4096
+-- a permission for each page number, which is a byte's address divided by 4096
 abbrev pub View : Type 0
 View = ℕ → Perm
 
--- whether a page is one of the `count` pages from `first` on
+-- the page is one of the `count` pages from `first` on
 abbrev pub in_range : ℕ → ℕ → ℕ → Bool
 in_range first count page = nat_le first page && nat_lt page (first + count)
 
--- the view with the permission in the `count` pages from `first` on, and as it was elsewhere
+-- the view with the permission in the `count` pages from `first` on, and otherwise unchanged
 abbrev pub overwritten : (ℕ → Perm) → ℕ → ℕ → Perm → ℕ → Perm
 overwritten view first count perm page = cond (in_range first count page) perm (view page)
 
--- the same permission at each page of the space
+-- both views give each page of the space the same permission
 abbrev pub SameView : (ℕ → Perm) → (ℕ → Perm) → Type 0
 SameView view other = (page : ℕ) → page < 2 ^ 44 → view page ≡ other page
 

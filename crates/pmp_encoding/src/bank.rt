@@ -13,22 +13,22 @@ use crate::perm::Perm;
 use crate::region::Entry;
 use crate::register_pair::decode;
 
-/// The PMP registers of a hart: eight configuration words pmpcfg0, pmpcfg2, .. pmpcfg14, of eight bytes each, the
-/// lowest byte first, and 64 address registers. No pair that it holds has a fault, and with a limit of sixteen each
-/// pair past the sixteenth is zero, which is OFF. (RISC-V Privileged Architecture, Physical Memory Protection CSRs)
+/// The PMP registers of a hart: eight configuration words pmpcfg0, pmpcfg2, .. pmpcfg14 of eight bytes each, lowest
+/// byte first, and 64 address registers. No pair in a bank has a fault. With a limit of sixteen, each pair after the
+/// sixteenth is zero, which is OFF. (RISC-V Privileged Architecture, Physical Memory Protection CSRs)
 #[derive(Clone, Copy, PartialEq, Eq)]
 pub struct Bank {
     limit: Limit,
     words: [u64; 8],
     addresses: [u64; 64],
-    /// The entries in their order, decoded once; those from `used` on say nothing.
+    /// The extents of the entries in order, each decoded once. Those from `used` on are unused.
     extents: [Extent; 64],
     used: usize,
     pub ghost registers: { AreRegisters limit words addresses },
     pub ghost decoded: { AreExtents words addresses (limit_number limit) extents used },
 }
 
-/// What a bank holds after the extents of its entries.
+/// Fills the unused places of `extents`.
 const NOWHERE: Extent = Extent {
     base: 0,
     end: 0,
@@ -43,7 +43,8 @@ impl Bank {
     ghost use Rattle.pmp_encoding.specs.Csrs.{IsCfgCsr, IsAddressCsr, IsCsr, IsFaultlessWord, IsFaultOfWord, WritesWord, WritesAddress};
     ghost use Rattle.pmp_encoding.specs.Banks.{word_at, cfg_at, address_at, HasList, IsBankOf};
 
-    /// The bank whose entries 0, 1, .. are these, each in its canonical pair, and whose others are OFF with address 0.
+    /// Returns the bank whose entries 0, 1, .. are `entries`, each as its canonical pair; all other pairs are OFF with
+    /// address 0.
     pub fn of(entries: &[Entry], limit: Limit) -> Bank
         requires { length entries.now ≤ limit_number limit }
         ensures list { HasList result entries.now }
@@ -54,7 +55,7 @@ impl Bank {
         bank
     }
 
-    /// The bank of entries that are kept packed, as [`Bank::of`] has it.
+    /// As [`Bank::of`], for packed entries.
     pub fn of_packed(entries: &[PackedEntry], limit: Limit) -> Bank
         requires { length entries.now ≤ limit_number limit }
         ensures list { HasList result entries.now }
@@ -64,7 +65,7 @@ impl Bank {
         Bank::of(&list[..entries.len()], limit)
     }
 
-    /// The bank that has no entry.
+    /// Returns the bank without entries.
     fn empty(limit: Limit) -> Bank
         ensures { result.limit ≡ limit }
     {
@@ -77,7 +78,8 @@ impl Bank {
         }
     }
 
-    /// Makes its entries 0, 1, .. these, each in its canonical pair, and its others OFF with address 0. Its limit stays.
+    /// Sets entries 0, 1, .. to `entries`, each as its canonical pair, and all others to OFF with address 0. The limit
+    /// stays.
     pub fn load(&mut self, entries: &[Entry])
         requires { length entries.now ≤ limit_number self.old.limit }
         ensures list { HasList self.new entries.now }
@@ -93,7 +95,7 @@ impl Bank {
         self.used = entries.len();
     }
 
-    /// The bank with these registers.
+    /// Returns the bank with these registers.
     fn holding(limit: Limit, words: [u64; 8], addresses: [u64; 64]) -> Bank
         requires { AreRegisters limit words addresses }
         ensures limit { result.limit ≡ limit }
@@ -119,14 +121,14 @@ impl Bank {
         }
     }
 
-    /// How many entries it has.
+    /// Returns the number of entries of the bank.
     pub fn limit(&self) -> Limit
         ensures { result ≡ self.now.limit }
     {
         self.limit
     }
 
-    /// The word pmpcfg(k). There is none with an odd number.
+    /// Returns the word pmpcfg(k). On RV64 only even-numbered configuration words exist.
     pub fn cfg(&self, k: usize) -> u64
         requires even { k % 2 ≡ 0 }
         requires there { k < 16 }
@@ -136,21 +138,21 @@ impl Bank {
         self.words[word]
     }
 
-    /// The word pmpcfg0, of the entries 0 to 7.
+    /// Returns pmpcfg0, which configures entries 0 to 7.
     pub fn cfg0(&self) -> u64
         ensures { result ≡ word_at self.now 0 }
     {
         self.words[0]
     }
 
-    /// The word pmpcfg2, of the entries 8 to 15.
+    /// Returns pmpcfg2, which configures entries 8 to 15.
     pub fn cfg2(&self) -> u64
         ensures { result ≡ word_at self.now 2 }
     {
         self.words[1]
     }
 
-    /// The address register of entry i.
+    /// Returns the address register of entry i.
     pub fn addr(&self, i: usize) -> u64
         requires { i < 64 }
         ensures { result ≡ address_at self.now i }
@@ -158,7 +160,7 @@ impl Bank {
         self.addresses[i]
     }
 
-    /// What entry i means, or `None` where it is OFF.
+    /// Decodes entry i, or returns `None` if it is OFF.
     pub fn entry(&self, i: usize) -> Option<Entry>
         requires { i < 64 }
         ensures { MatchOption result (IsOff (cfg_at self.now i) (address_at self.now i))
@@ -167,8 +169,8 @@ impl Bank {
         entry_of(byte_of(self.words[i / 8], i % 8), self.addr(i))
     }
 
-    /// What accesses are matched against: the entries of the pairs below the limit, in order, without those that are
-    /// OFF.
+    /// Returns the extents that accesses are matched against: those of the pairs below the limit, in order, without the
+    /// pairs that are OFF.
     pub fn extents(&self) -> &[Extent]
         ensures { (entries : List Entry) → HasList self.now entries
             → result.now ≡ map extent_of entries }
@@ -176,9 +178,9 @@ impl Bank {
         &self.extents[..self.used]
     }
 
-    /// Writes the CSR of this number, as the instruction csrw does. A configuration word with a fault answers the
-    /// fault of its lowest byte that has one, an address of 2^54 or more `AddressBits`, and a number that no CSR of
-    /// the bank has `NoSuchCsr`; each refusal leaves the bank as it was.
+    /// Writes the CSR of this number, as the instruction csrw does. Fails with the fault of the lowest faulty byte of a
+    /// configuration word, with `AddressBits` for an address of 2^54 or more, and with `NoSuchCsr` if the bank has no
+    /// CSR of this number. On failure the bank is unchanged.
     pub fn write_csr(&mut self, number: u16, value: u64) -> Result<(), EncodingFault>
         ensures unknown { (result ≡ Err EncodingFault.NoSuchCsr)
             ↔ (¬ IsCsr self.old.limit number) }
@@ -248,7 +250,7 @@ ghost use Rattle.pmp_encoding.specs.Filled.{AreZero, IsFilled};
 ghost use Rattle.pmp_encoding.specs.Faults.{IsFaultless};
 ghost use Rattle.pmp_encoding.specs.Registers.{byte_of};
 
-/// Byte j of a word, the lowest first.
+/// Returns byte j of a word, counted from the lowest.
 pub(crate) fn byte_of(word: u64, j: usize) -> u8
     requires { j < 8 }
     ensures { result ≡ byte_of word j }
@@ -256,12 +258,12 @@ pub(crate) fn byte_of(word: u64, j: usize) -> u8
     ((word >> (8 * j)) % 256) as u8
 }
 
-/// What a pair with no fault means.
+/// Decodes a pair without a fault.
 fn entry_of(cfg: u8, address: u64) -> Option<Entry>
     requires { IsFaultless cfg address }
     ensures { MatchOption result (IsOff cfg address) (MeansEntry cfg address) }
 {
-    // Most entries are OFF, and need no decoding.
+    // Most pairs are OFF and need no decoding.
     if cfg == 0 {
         return None;
     }
@@ -271,7 +273,7 @@ fn entry_of(cfg: u8, address: u64) -> Option<Entry>
     }
 }
 
-/// Makes the address registers zero. Those from the limit on are zero before.
+/// Zeroes the address registers. Those from the limit on are zero already.
 fn clear(addresses: &mut [u64; 64], limit: Limit)
     requires unused { (i : ℕ) → limit_number limit ≤ i → i < 64
         → slice_index addresses.old i ≡ 0 }
@@ -283,9 +285,9 @@ fn clear(addresses: &mut [u64; 64], limit: Limit)
     }
 }
 
-/// Fills registers with entries, each in its canonical pair, and zero after them; and decodes each one beside it. The word that is
-/// being filled is held in a variable: read back from its place, it would make each entry wait for the store of the one before. So is
-/// the entry, which would be read again after each store.
+/// Fills the registers with the canonical pairs of `entries` and with zeros after them, and decodes each entry into
+/// `extents`. The current word and the current entry are kept in variables: read back from memory, each entry would
+/// wait for the store of the previous one.
 fn fill(
     words: &mut [u64; 8],
     addresses: &mut [u64; 64],
@@ -313,7 +315,7 @@ fn fill(
     }
 }
 
-/// Packed entries, each with its region and its permission, at the first of sixty-four places.
+/// Unpacks the entries to the start of an array of 64.
 fn unpacked(entries: &[PackedEntry]) -> [Entry; 64]
     requires { length entries.now ≤ 64 }
     ensures room { length result ≡ 64 }
@@ -326,7 +328,7 @@ fn unpacked(entries: &[PackedEntry]) -> [Entry; 64]
     list
 }
 
-/// The word with the byte put above all others.
+/// Sets byte j of a word whose bytes from j on are zero.
 fn with_byte(word: u64, j: usize, byte: u8) -> u64
     requires place { j < 8 }
     requires above { word < 2 ^ (8 * j) }

@@ -1,4 +1,4 @@
-//! The CSRs of a bank, by number.
+//! The CSRs of a bank by number.
 
 ghost use Rattle.std.specs.Prelude.{◌%◌, ◌<◌, ◌*◌, MatchOption};
 ghost use Rattle.pmp_encoding.specs.Csrs.{IsCsr, IsFaultlessWord, IsFaultOfWord};
@@ -9,14 +9,14 @@ use crate::fault::EncodingFault;
 use crate::limit::Limit;
 use crate::register_pair::fault_of;
 
-/// A register of a bank.
+/// A CSR of a bank.
 #[derive(Clone, Copy)]
 pub(crate) enum Csr {
     Cfg(usize),
     Address(usize),
 }
 
-/// The register of this number, if a bank of the limit has one.
+/// Returns the CSR of this number, if a bank with this limit has one.
 pub(crate) fn csr_of(limit: Limit, number: u16) -> Option<Csr>
     ensures { MatchOption result (¬ IsCsr limit number) (IsNamed limit number) }
 {
@@ -38,7 +38,7 @@ pub(crate) fn csr_of(limit: Limit, number: u16) -> Option<Csr>
     None
 }
 
-/// The fault of the lowest byte of a configuration word that has one.
+/// Returns the fault of the lowest faulty byte of a configuration word.
 pub(crate) fn fault_of_word(word: u64) -> Option<EncodingFault>
     ensures { MatchOption result (IsFaultlessWord word) (IsFaultOfWord word) }
 {

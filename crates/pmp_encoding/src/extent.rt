@@ -1,4 +1,4 @@
-//! An entry as accesses are matched against it.
+//! The range of addresses that an entry matches, with its permission.
 
 ghost use Rattle.std.specs.Prelude.{◌≡◌};
 ghost use Rattle.pmp_encoding.specs.Extents.{extent_of};
@@ -6,18 +6,18 @@ ghost use Rattle.pmp_encoding.specs.Extents.{extent_of};
 use crate::perm::Perm;
 use crate::region::{Entry, bytes_of};
 
-/// An entry as accesses are matched against it: the addresses from `base` to before `end`, and its permission.
+/// The range of addresses that an entry matches, from `base` up to but excluding `end`, with its permission.
 #[derive(Clone, Copy, PartialEq, Eq)]
 pub struct Extent {
     /// The lowest address.
     pub base: u64,
-    /// The first address after it, at most 2^56.
+    /// The first address after the range, at most 2^56.
     pub end: u64,
     pub perm: Perm,
 }
 
 impl Extent {
-    /// Becomes what an entry matches. It is put there field by field, since a whole one would bring zeros between its fields.
+    /// Sets the extent to that of an entry, field by field: storing a whole struct would also write its padding.
     pub(crate) fn put(&mut self, entry: &Entry)
         ensures { self.new ≡ extent_of entry.now }
     {

@@ -1,15 +1,14 @@
-//! The register pairs of RISC-V physical memory protection (PMP) on RV64, read and written with nothing lost.
+//! The register pairs of RISC-V physical memory protection (PMP) on RV64, encoded and decoded without loss.
 //!
 //! An [`Entry`] is a permission on an aligned block of the physical address space, of 4 bytes (NA4) or of 2^3 to 2^56
-//! bytes (NAPOT). A pair of a configuration byte and an address register means an entry, means nothing (OFF), or has
-//! a fault; TOR, locked entries and reserved bits are faults here. `encode` gives the canonical pair of an entry, and
-//! `decode` answers what a pair means: an entry exactly where it means one, and otherwise why not. A [`Bank`] holds eight
-//! configuration words and 64 address registers, and its entries are those of the pairs below its limit, in order.
-//! A [`PackedEntry`] is an entry in eight bytes, for long lists. Nothing here takes memory.
-//! (RISC-V Privileged Architecture, Physical Memory Protection)
+//! bytes (NAPOT). A pair of a configuration byte and an address register means an entry, is OFF, or has a fault; TOR,
+//! locked entries and reserved bits are faults here. `encode` returns the canonical pair of an entry. `decode` returns
+//! the entry that a pair means, `None` if it is OFF, or its fault. A [`Bank`] holds eight configuration words and 64
+//! address registers, and its entries are those of the pairs below its limit, in order. A [`PackedEntry`] is an entry
+//! in eight bytes, for long lists. Nothing here allocates. (RISC-V Privileged Architecture, Physical Memory Protection)
 //!
-//! What the layers above use: `encode` and `decode` are inverse, but for 54 trailing ones, which come back as 53, and a
-//! bank made of a list has that list.
+//! For the layers above: `decode` inverts `encode`, and `encode` inverts `decode` except that 54 trailing ones become
+//! 53; a bank made from a list has that list.
 //!
 //! ```
 //! let Some(region) = Region::new(0x8000_0000, 12) else { return; };
@@ -18,26 +17,23 @@
 //! // bank.cfg0() is 0x1F and bank.addr(0) is 0x2000_01FF
 //! ```
 //!
-//! How wide the registers of a hart are, RV32 or RV64, and what follows for its configuration words and for what its
-//! address registers reach.
-//!
-//! For the layer above: an [`Xlen`] says how many digits a register has, how many entries are in a configuration word,
-//! how many words there are, by which number each is named, and whether the hart's address registers reach the regions of
-//! a list of entries.
+//! An [`Xlen`] is the width of a hart's registers, RV32 or RV64. It determines the number of hexadecimal digits of a
+//! register, the number of entries in a configuration word, the number of words and their names, and whether the hart's
+//! address registers can express the regions of a list of entries.
 //!
 //! ```rust
 //! let words = Xlen::Rv32.words(Limit::Sixteen); // 4, of four entries each
 //! ```
 //!
-//! Pages of the physical address space, and views: a permission for each page.
+//! Pages of the physical address space, and views, which give each page a permission.
 //!
 //! A page is 4096 bytes, and the space has `2 ^ 44` pages, as the 56-bit physical addresses of the RISC-V privileged
-//! architecture allow. A page's number is the address of its first byte divided by 4096. A block is `2 ^ log2` pages
-//! from a multiple of that on. Nothing here takes memory.
+//! architecture allow. A page's number is the address of its first byte divided by 4096. A block is `2 ^ log2` pages,
+//! aligned to its size. Nothing here allocates.
 //!
-//! What the layers above use: the numbers of the space, how many pages a block has, whether a page is in a range and
-//! whether two ranges have a page in common; and in `specs/Views.antt` what a view is, a view with one range
-//! overwritten, two views that are the same, and a block of one permission.
+//! For the layers above: the constants of the space, the number of pages of a block, whether a range contains a page,
+//! and whether two ranges are disjoint. `specs/Views.antt` defines views, a view with one range overwritten, equality
+//! of views, and blocks of one permission.
 //!
 //! ```
 //! let text = PageRange { first: 0x80000, count: 16 };

@@ -1,6 +1,6 @@
-//! How many entries a hart has.
+//! The number of PMP entries of a hart.
 
-/// How many entries a bank has: the first sixteen of the privileged specification, or all sixty-four.
+/// The number of entries of a bank: 16, the first ones of the privileged specification, or all 64.
 #[derive(Clone, Copy, PartialEq, Eq, Debug)]
 pub enum Limit {
     Sixteen,
@@ -12,7 +12,7 @@ impl Limit {
     ghost use Rattle.pmp_encoding.specs.declared.limit.Limit.{Limit};
     ghost use Rattle.pmp_encoding.specs.Limits.{limit_number};
 
-    /// The limit of this many entries, or `None` where that is neither 16 nor 64.
+    /// Returns the limit for this number of entries, or `None` unless it is 16 or 64.
     pub fn of(number: u32) -> Option<Limit>
         ensures some { IfSome result (λ limit. limit_number limit ≡ number) }
         ensures none { IfNone result ((limit : Limit) → limit_number limit ≢ number) }
@@ -24,7 +24,7 @@ impl Limit {
         }
     }
 
-    /// The number of entries, 16 or 64.
+    /// Returns the number of entries, 16 or 64.
     pub fn number(self) -> u32
         ensures value { result ≡ limit_number self }
         ensures most { result ≤ 64 }
@@ -35,7 +35,7 @@ impl Limit {
         }
     }
 
-    /// The number of configuration words that RV64 has for these entries, eight to a word: 2 or 8.
+    /// Returns the number of configuration words of these entries on RV64, eight entries to a word: 2 or 8.
     pub fn words(self) -> usize
         ensures value { result ≡ limit_number self / 8 }
         ensures whole { result * 8 ≡ limit_number self }

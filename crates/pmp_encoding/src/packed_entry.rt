@@ -7,10 +7,10 @@ use crate::perm::Perm;
 use crate::region::{Entry, Region, bytes_of};
 use std::marker::Model;
 
-/// An entry in eight bytes instead of twenty-four, as long lists keep it. Contracts see the entry.
+/// An entry in eight bytes instead of twenty-four, for long lists. Contracts see it as an [`Entry`].
 #[derive(Drop)]
 pub struct PackedEntry {
-    /// A quarter of the lowest address, six bits of the size, and three of the permission.
+    /// A quarter of the lowest address, then six bits for the size and three for the permission.
     number: u64,
     ghost block: { HasBlock number },
     ghost bits: { HasBits number },
@@ -29,7 +29,7 @@ impl PackedEntry {
     ghost use Rattle.std.specs.Prelude.{◌≡◌};
     ghost use Rattle.pmp_encoding.specs.Encoding.{MeansEntry, cfg_of, address_of};
 
-    /// The entry, packed.
+    /// Packs an entry.
     #[inline(always)]
     pub fn new(entry: Entry) -> PackedEntry
         ensures { result ≡ entry }
@@ -41,7 +41,7 @@ impl PackedEntry {
         }
     }
 
-    /// A copy of it.
+    /// Returns a copy.
     #[inline(always)]
     pub fn copied(&self) -> PackedEntry
         ensures { result ≡ self.now }
@@ -51,7 +51,7 @@ impl PackedEntry {
         }
     }
 
-    /// The number of its bytes, as a power of two from 2 to 56.
+    /// Returns the binary logarithm of the region's size in bytes, from 2 to 56.
     #[inline(always)]
     pub fn log2(&self) -> u32
         ensures { result ≡ self.now.region.log2 }
@@ -59,7 +59,7 @@ impl PackedEntry {
         (self.number / 8 % 64) as u32
     }
 
-    /// Its permission.
+    /// Returns the permission.
     #[inline(always)]
     pub fn perm(&self) -> Perm
         ensures { result ≡ self.now.perm }
@@ -74,7 +74,7 @@ impl PackedEntry {
         }
     }
 
-    /// Its region.
+    /// Returns the region.
     #[inline(always)]
     pub fn region(&self) -> Region
         ensures { result ≡ self.now.region }
@@ -85,7 +85,7 @@ impl PackedEntry {
         }
     }
 
-    /// The entry.
+    /// Unpacks the entry.
     #[inline(always)]
     pub fn entry(&self) -> Entry
         ensures { result ≡ self.now }
@@ -96,7 +96,7 @@ impl PackedEntry {
         }
     }
 
-    /// Its canonical pair, as [`Entry::encode`] has it.
+    /// Returns the canonical pair, as [`Entry::encode`].
     #[inline(always)]
     pub fn encode(&self) -> (u8, u64)
         ensures meaning { MeansEntry result.0 result.1 self.now }

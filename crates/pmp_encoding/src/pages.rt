@@ -2,13 +2,13 @@
 
 ghost use Rattle.std.specs.Prelude.{◌≡◌, ◌^◌, ◌≤◌};
 
-/// The bytes of a page.
+/// Size of a page in bytes.
 pub const PAGE_SIZE: u64 = 4096;
 
-/// How many pages the physical address space has.
+/// Number of pages of the physical address space.
 pub const SPACE_PAGES: u64 = 1 << 44;
 
-/// How many pages a block of this size has. A block is at most the space.
+/// Returns the number of pages of a block of `2 ^ log2` pages. A block is at most the whole space.
 pub fn pages_of(log2: u32) -> u64
     requires { log2 ≤ 44 }
     ensures { result ≡ 2 ^ log2 }
@@ -16,12 +16,12 @@ pub fn pages_of(log2: u32) -> u64
     1 << log2
 }
 
-/// Pages one after another, by their numbers.
+/// A range of consecutive pages.
 #[derive(Clone, Copy, PartialEq, Eq)]
 pub struct PageRange {
     /// The number of the first page.
     pub first: u64,
-    /// How many pages.
+    /// The number of pages.
     pub count: u64,
 }
 
@@ -30,7 +30,7 @@ impl PageRange {
     ghost use Rattle.pmp_encoding.specs.Views.{in_range};
     ghost use Rattle.pmp_encoding.specs.Ranges.{AreApart};
 
-    /// The whole pages of `size` bytes from `base` on. Both are multiples of a page's size, or are rounded down to one.
+    /// Returns the pages of `size` bytes from `base` on. Both are rounded down to multiples of the page size.
     pub fn of_bytes(base: u64, size: u64) -> PageRange
         ensures first { result.first ≡ base / 4096 }
         ensures count { result.count ≡ size / 4096 }
@@ -41,21 +41,21 @@ impl PageRange {
         }
     }
 
-    /// Whether the page is one of these.
+    /// Returns whether the range contains the page.
     pub fn has(self, page: u64) -> bool
         ensures { result ≡ in_range self.first self.count page }
     {
         self.first <= page && page - self.first < self.count
     }
 
-    /// Whether it ends at the page or before.
+    /// Returns whether the range ends at or before the page.
     fn ends_by(self, page: u64) -> bool
         ensures { IsTrue result ↔ (self.first + self.count ≤ page) }
     {
         self.first <= page && self.count <= page - self.first
     }
 
-    /// Whether two ranges have no page in common. A range of no pages has none in common with any.
+    /// Returns whether two ranges have no page in common. An empty range is disjoint from every range.
     pub fn is_apart_from(self, other: PageRange) -> bool
         ensures { IsTrue result ↔ AreApart self other }
     {

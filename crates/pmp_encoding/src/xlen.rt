@@ -1,4 +1,4 @@
-//! How many bits the registers of a hart have.
+//! The width of a hart's registers.
 
 ghost use Rattle.std.specs.Prelude.{◌≡◌, ◌+◌, ◌-◌, ◌/◌, ◌<◌, ◌≤◌, ◌↔◌, true};
 ghost use Rattle.std.specs.List.{list_all};
@@ -7,7 +7,7 @@ ghost use Rattle.pmp_encoding.specs.Widths.{fits, is_near, register_digits, spac
 
 use crate::{Limit, PackedEntry};
 
-/// How many bits the registers of a hart have.
+/// The width of a hart's registers.
 #[derive(Clone, Copy, PartialEq, Eq, Debug)]
 pub enum Xlen {
     /// 32 bits.
@@ -16,7 +16,7 @@ pub enum Xlen {
     Rv64,
 }
 
-/// Whether a region ends where address registers of 32 bits still reach.
+/// Returns whether a region ends within the space that 32-bit address registers can express.
 fn is_near(entry: &PackedEntry) -> bool
     ensures { result ≡ is_near entry.now }
 {
@@ -31,7 +31,7 @@ fn are_near(entries: &[PackedEntry]) -> bool
 }
 
 impl Xlen {
-    /// How many hexadecimal digits a register has.
+    /// Returns the number of hexadecimal digits of a register.
     pub fn digits(self) -> u8
         ensures value { result ≡ register_digits self }
         ensures most { result ≤ 16 }
@@ -42,7 +42,7 @@ impl Xlen {
         }
     }
 
-    /// Whether a register can hold the number.
+    /// Returns whether a register can hold the number.
     pub fn fits(self, value: u64) -> bool
         ensures { result ≡ fits self value }
     {
@@ -52,7 +52,7 @@ impl Xlen {
         }
     }
 
-    /// Where the space of physical addresses ends.
+    /// Returns the end of the physical address space.
     pub fn space_end(self) -> u64
         ensures { result ≡ space_end self }
     {
@@ -62,7 +62,7 @@ impl Xlen {
         }
     }
 
-    /// How many entries have a byte of a configuration word.
+    /// Returns the number of entries configured by one word.
     pub fn word_entries(self) -> u8
         ensures value { result ≡ word_entries self }
         ensures some { 0 < result }
@@ -74,7 +74,7 @@ impl Xlen {
         }
     }
 
-    /// How many configuration words there are for this many entries.
+    /// Returns the number of configuration words for this many entries.
     pub fn words(self, limit: Limit) -> usize
         ensures value { result ≡ word_count self limit }
         ensures most { result ≤ 16 }
@@ -85,7 +85,7 @@ impl Xlen {
         }
     }
 
-    /// The number by which the configuration word of that place is named.
+    /// Returns the number in the name of the i-th configuration word.
     pub fn word_number(self, i: usize) -> u64
         requires { i < 64 }
         ensures { result ≡ word_number self i }
@@ -96,7 +96,7 @@ impl Xlen {
         }
     }
 
-    /// The place of the word in which an entry has its byte.
+    /// Returns the position of the word that contains the byte of an entry.
     pub fn word_of(self, entry: u8) -> usize
         ensures value { result ≡ entry / word_entries self }
         ensures most { result < 64 }
@@ -107,7 +107,7 @@ impl Xlen {
         }
     }
 
-    /// The place of the first word that has no byte of an entry below `first`.
+    /// Returns the position of the first word that contains no byte of an entry below `first`.
     pub fn whole_word(self, first: u8) -> usize
         ensures value { result ≡ whole_word self first }
         ensures most { result ≤ 64 }
@@ -118,7 +118,7 @@ impl Xlen {
         }
     }
 
-    /// Whether the hart's address registers reach the regions of all these entries.
+    /// Returns whether the hart's address registers can express the regions of all these entries.
     pub fn reaches(self, entries: &[PackedEntry]) -> bool
         ensures { (result ≡ true) ↔ AreReached self entries.now }
     {

@@ -1,4 +1,4 @@
--- Why an access fails, by number and by the kind of the access.
+-- Exception codes of failed accesses.
 use Rattle.std.specs.Prelude.{ℕ}
 use Rattle.pmp_match.specs.declared.access.Kind.{Kind}
 use Rattle.pmp_match.specs.declared.access.Kind.TheVariants.{Fetch, Load, Store}

@@ -1,4 +1,4 @@
--- What extents give at one byte.
+-- The permission that extents give one byte.
 use Rattle.std.specs.Prelude.{◌≡◌, ℕ, ◌/◌, ◌^◌, ◌<◌, List, [], ◌∷◌, Bool, ◌&&◌, nat_lt, nat_le}
 use Rattle.std.specs.Prelude.{if◌then◌else◌}
 use Rattle.pmp_encoding.specs.declared.extent.Extent.{Extent}
@@ -6,11 +6,11 @@ use Rattle.pmp_encoding.specs.declared.perm.Perm.{Perm}
 use Rattle.pmp_encoding.specs.declared.perm.Perm.TheVariants.{NoAccess}
 use Rattle.pmp_encoding.specs.Views.{View}
 
--- whether the extent has the byte
+-- the extent contains the byte
 abbrev pub has_byte : Extent → ℕ → Bool
 has_byte x byte = nat_le x.base byte && nat_lt byte x.end
 
--- the permission of the first extent that has the byte, and no access where none does
+-- the permission of the first extent that contains the byte, or no access if no extent does
 abbrev pub perm_at : List Extent → ℕ → Perm
 perm_at [] byte = NoAccess
 perm_at (x ∷ extents) byte = if has_byte x byte then x.perm else perm_at extents byte

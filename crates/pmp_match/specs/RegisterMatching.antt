@@ -1,4 +1,4 @@
--- Which addresses the entries of a hart's registers match. The mode is A, bits 4:3 of the
+-- The addresses that the entries of a hart's registers match. The mode is A, bits 4:3 of the
 -- configuration byte: 0 is OFF, 1 TOR, 2 NA4 and 3 NAPOT. (RISC-V Privileged Architecture, Physical
 -- Memory Protection, Address Matching)
 use Rattle.std.specs.Prelude.{◌≡◌, ℕ, ◌+◌, ◌-◌, ◌*◌, ◌%◌, ◌^◌, ◌==◌, ⊤, min, if◌then◌else◌}
@@ -15,25 +15,25 @@ use Rattle.pmp_match.specs.declared.registers.Registers.{Registers}
 use Rattle.pmp_match.specs.Registers.{address_at, user_cfg_at}
 pub use Rattle.pmp_match.specs.Tor.{nowhere, tor_extent}
 
--- what a hart of that width keeps of an address register: bits 31:0 on RV32, and on RV64 bits 53:0,
--- where bits 63:54 are zero, whatever was written
+-- the bits of an address register that a hart keeps: bits 31:0 on RV32, and bits 53:0 on RV64,
+-- where bits 63:54 are always zero
 abbrev pub kept : Xlen → ℕ → ℕ
 kept xlen address = address % 2 ^ address_bits xlen
 
--- the bottom of a range: the address register of the entry before, whatever that entry's own mode
--- is, and 0 for entry 0
+-- the bottom of a TOR entry: the address register of the previous entry, in whatever mode that is,
+-- or 0 for entry 0
 abbrev pub bottom_of : Registers → ℕ → ℕ
 bottom_of registers place = if place == 0 then 0
     else kept registers.xlen (address_at registers (place - 1))
 
--- of an extent the addresses that a hart of that width has. A block of RV32 may be named that ends
--- beyond them: an address register of ones alone names 2^35 bytes, and matches all that there are
+-- the part of an extent within the hart's space. On RV32 a block may end after the space: an
+-- address register of all ones names 2^35 bytes
 abbrev pub within : Xlen → Extent → Extent
 within xlen x = record { base = x.base; end = min x.end (space_end xlen); perm = x.perm }
 
--- the addresses that the entry of a place matches, and what it gives supervisor and user mode: none
--- where it is OFF; with TOR those below the top and not below the bottom; with NA4 and NAPOT those
--- of the block of the pair
+-- the addresses that the entry at a position matches, with the permission of supervisor and user
+-- mode: none if it is OFF; with TOR those from the bottom up to but excluding the top; with NA4 and
+-- NAPOT the block of the pair
 pub data IsExtentAt (registers : Registers) (place : ℕ) : Extent → Type 0 where
   off :
       IsOff (user_cfg_at registers place) (kept registers.xlen (address_at registers place))
@@ -48,13 +48,13 @@ pub data IsExtentAt (registers : Registers) (place : ℕ) : Extent → Type 0 wh
       (kept registers.xlen (address_at registers place)) e
       → IsExtentAt registers place (within registers.xlen (extent_of e))
 
--- the extents of the entries from a place on, one after another
+-- the extents of consecutive entries from a position on
 abbrev pub AreExtentsFrom : Registers → ℕ → List Extent → Type 0
 AreExtentsFrom registers place [] = ⊤
 AreExtentsFrom registers place (x ∷ extents) =
     IsExtentAt registers place x × AreExtentsFrom registers (place + 1) extents
 
--- the extents of the 64 entries, in their order
+-- the extents of the 64 entries in order
 pub record AreExtents (registers : Registers) (extents : List Extent) : Type 0 where
   pub count : length extents ≡ 64
   pub each : AreExtentsFrom registers 0 extents

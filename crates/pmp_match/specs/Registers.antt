@@ -7,15 +7,15 @@ use Rattle.pmp_match.specs.Smepmp.{user_cfg}
 abbrev pub cfg_at : Registers → ℕ → ℕ
 cfg_at registers place = slice_index registers.cfgs place
 
--- the byte that supervisor and user mode see, by `mseccfg`
+-- the configuration byte that decides for supervisor and user mode, given `mseccfg`
 abbrev pub user_cfg_at : Registers → ℕ → ℕ
 user_cfg_at registers place = user_cfg registers.security (cfg_at registers place)
 
--- its address register
+-- the address register of an entry
 abbrev pub address_at : Registers → ℕ → ℕ
 address_at registers place = slice_index registers.addresses place
 
--- the pairs of the entries from one on, so many of them
+-- the pairs of `count` entries from `place` on
 abbrev pub pairs_from : Registers → ℕ → ℕ → List (ℕ × ℕ)
 pairs_from registers place zero = []
 pairs_from registers place (suc count) =

@@ -2,6 +2,6 @@
 use Rattle.pmp_encoding.specs.declared.bank.Bank.{Bank}
 use Rattle.pmp_match.specs.declared.segments.Segments.{Segments}
 
--- the bank that segments were made from
+-- the bank that the segments were made from
 abbrev pub bank_of : Segments → Bank
 bank_of segments = segments.bank.now

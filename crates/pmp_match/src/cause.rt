@@ -1,6 +1,6 @@
-//! Why an access fails, by exception code.
+//! Exception codes of failed accesses.
 
-/// Why an access fails, by the exception code of the RISC-V Privileged Architecture.
+/// The reason why an access fails: an exception code of the RISC-V Privileged Architecture.
 #[derive(Clone, Copy, PartialEq, Eq, Debug)]
 pub enum Cause {
     FetchMisaligned = 0,
@@ -15,7 +15,7 @@ impl Cause {
     ghost use Rattle.std.specs.Prelude.{◌≡◌};
     ghost use Rattle.pmp_match.specs.Causes.{cause_number};
 
-    /// Its exception code.
+    /// Returns the exception code.
     pub fn number(self) -> u8
         ensures { result ≡ cause_number self }
     {

@@ -1,4 +1,4 @@
-//! Which entry decides an access.
+//! The entry that decides an access.
 
 ghost use Rattle.std.specs.Prelude.{◌≡◌, ◌+◌, ◌^◌, ◌<◌, Option};
 ghost use Rattle.pmp_match.specs.declared.access.Access.{Access};
@@ -13,9 +13,9 @@ use pmp_encoding::{Bank, Extent};
 /// The entry that decides an access.
 #[derive(Clone, Copy)]
 pub struct Decider {
-    /// Its number, from 0.
+    /// The entry's number, from 0.
     pub number: usize,
-    /// The addresses that it matches, and its permission.
+    /// The addresses that the entry matches, and its permission.
     pub extent: Extent,
 }
 

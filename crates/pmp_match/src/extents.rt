@@ -1,4 +1,4 @@
-//! What each entry matches.
+//! The addresses that each entry matches.
 
 ghost use Rattle.std.specs.Prelude.{◌≡◌, ◌/◌, ◌^◌, ◌<◌, IfErr, IfNone, IfOk, IfSome};
 ghost use Rattle.pmp_encoding.specs.Extents.{extent_of};
@@ -12,7 +12,7 @@ use crate::reserved::{Reserved, ReservedAt};
 use crate::smepmp::{Security, user_cfg};
 use pmp_encoding::{Entry, Extent, Perm, Xlen, decode};
 
-/// The extent that has no address.
+/// Returns the empty extent.
 fn no_extent() -> Extent
     ensures { result ≡ nowhere }
 {
@@ -23,7 +23,7 @@ fn no_extent() -> Extent
     }
 }
 
-/// What an entry of NA4 or NAPOT matches.
+/// Returns the extent that an NA4 or NAPOT entry matches.
 pub fn extent_of(entry: &Entry) -> Extent
     ensures { result ≡ extent_of entry.now }
 {
@@ -34,7 +34,7 @@ pub fn extent_of(entry: &Entry) -> Extent
     }
 }
 
-/// What a hart keeps of an address register.
+/// Returns the bits of an address register that a hart keeps.
 fn kept(xlen: Xlen, address: u64) -> u64
     ensures value { result ≡ kept xlen address }
     ensures small { result < 2 ^ 54 }
@@ -45,7 +45,7 @@ fn kept(xlen: Xlen, address: u64) -> u64
     }
 }
 
-/// The addresses of an extent that a hart has.
+/// Cuts an extent to the hart's physical address space.
 fn within(xlen: Xlen, extent: &Extent) -> Extent
     ensures { result ≡ within xlen extent.now }
 {
@@ -56,7 +56,7 @@ fn within(xlen: Xlen, extent: &Extent) -> Extent
     }
 }
 
-/// The bottom of a TOR entry.
+/// Returns the bottom of a TOR entry.
 fn bottom_of(registers: &Registers, place: usize) -> u64
     requires { place < 64 }
     ensures value { result ≡ bottom_of registers.now place }
@@ -68,7 +68,7 @@ fn bottom_of(registers: &Registers, place: usize) -> u64
     kept(registers.xlen, registers.addresses[place - 1])
 }
 
-/// What a TOR entry matches.
+/// Returns the extent of a TOR entry with these bounds.
 fn tor_extent(bottom: u64, top: u64, perm: Perm) -> Extent
     requires bottom { bottom < 2 ^ 54 }
     requires top { top < 2 ^ 54 }
@@ -85,7 +85,7 @@ fn tor_extent(bottom: u64, top: u64, perm: Perm) -> Extent
     }
 }
 
-/// The reserved value of a configuration byte.
+/// Returns the reserved value of a configuration byte, if it has one.
 fn reserved_of(security: Security, cfg: u8) -> Option<Reserved>
     ensures some { IfSome result (IsNamedReserved security cfg) }
     ensures none { IfNone result (IsDefined security cfg) }
@@ -99,7 +99,7 @@ fn reserved_of(security: Security, cfg: u8) -> Option<Reserved>
     }
 }
 
-/// What an entry of the mode TOR matches.
+/// Returns the extent of the TOR entry at a position.
 fn extent_of_range(registers: &Registers, place: usize, cfg: u8, top: u64) -> Extent
     requires place { place < 64 }
     requires cfg { cfg ≡ user_cfg_at registers.now place }
@@ -115,7 +115,7 @@ fn extent_of_range(registers: &Registers, place: usize, cfg: u8, top: u64) -> Ex
     }
 }
 
-/// What the entry of a place matches, where it has no reserved value.
+/// Returns the extent of the entry at a position, which has no reserved value.
 fn extent_at(registers: &Registers, place: usize) -> Extent
     requires place { place < 64 }
     requires defined { IsDefined registers.now.security (cfg_at registers.now place) }
@@ -133,7 +133,7 @@ fn extent_at(registers: &Registers, place: usize) -> Extent
     }
 }
 
-/// What each entry matches, in their order, or the first entry that has a reserved value.
+/// Returns the extent of each entry in order, or the first entry that has a reserved value.
 pub fn extents_of(registers: &Registers) -> Result<[Extent; 64], ReservedAt>
     ensures extents { IfOk result (AreExtents registers.now) }
     ensures reserved { IfErr result (IsFirstReserved registers.now) }

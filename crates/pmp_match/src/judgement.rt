@@ -1,4 +1,4 @@
-//! The judgement of an access by a bank.
+//! Decides accesses by the entries of a bank.
 
 ghost use Rattle.std.specs.Prelude.{◌≡◌, ◌+◌, ◌^◌, ◌<◌, ◌&&◌, ◌||◌, ◌%◌, ◌==◌, not, bit_and, List};
 ghost use Rattle.pmp_encoding.specs.declared.perm.Perm.{Perm};
@@ -14,7 +14,7 @@ use crate::access::{Access, Kind, Mode};
 use crate::cause::Cause;
 use pmp_encoding::{Bank, Extent, Perm, SPACE_SIZE};
 
-/// The bit of the right that a kind wants.
+/// Returns the permission bit that a kind of access requires.
 #[inline(always)]
 #[tactic(auto, using(crate::proofs::Rights::wants_execute, crate::proofs::Rights::wants_read, crate::proofs::Rights::wants_write))]
 fn right(kind: Kind) -> u8
@@ -27,7 +27,7 @@ fn right(kind: Kind) -> u8
     }
 }
 
-/// Whether the permission has the right that the kind wants, without a branch on either: it would be guessed wrong too often.
+/// Returns whether the permission allows the kind, without branches: they would be mispredicted too often.
 #[inline(always)]
 pub fn holds(perm: Perm, kind: Kind) -> bool
     ensures { result ≡ holds perm kind }
@@ -35,7 +35,7 @@ pub fn holds(perm: Perm, kind: Kind) -> bool
     perm.bits() & right(kind) != 0
 }
 
-/// Whether a mode is machine mode.
+/// Returns whether the mode is machine mode.
 #[inline(always)]
 pub fn is_machine(mode: Mode) -> bool
     ensures { result ≡ is_machine mode }
@@ -43,8 +43,8 @@ pub fn is_machine(mode: Mode) -> bool
     mode == Mode::Machine
 }
 
-/// Whether some byte of the access is in the extent. Both tests are made in any case: a branch between them would be
-/// guessed wrong too often.
+/// Returns whether the extent contains a byte of the access. Both comparisons are always made, because a branch between
+/// them would be mispredicted too often.
 pub fn touches(extent: &Extent, access: &Access) -> bool
     requires { access.now.address < 2 ^ 56 }
     ensures { result ≡ touches extent.now access.now }
@@ -52,7 +52,7 @@ pub fn touches(extent: &Extent, access: &Access) -> bool
     (extent.base < access.address + u64::from(access.size)) & (access.address < extent.end)
 }
 
-/// Whether the extent, being the first with a byte of the access, lets it through.
+/// Returns whether the extent allows the access, given that it is the first with a byte of it.
 fn grants(extent: &Extent, access: &Access) -> bool
     requires { access.now.address < 2 ^ 56 }
     ensures { result ≡ grants extent.now access.now }
@@ -63,7 +63,7 @@ fn grants(extent: &Extent, access: &Access) -> bool
         && (is_machine(access.mode) || holds(extent.perm, access.kind))
 }
 
-/// The extents without those at their front that have no byte of the access, four by four.
+/// Skips extents at the front that contain no byte of the access, four at a time.
 fn behind_misses<'a>(extents: &'a [Extent], access: &Access) -> &'a [Extent]
     requires { access.now.address < 2 ^ 56 }
     ensures { lets_through result.now access.now ≡ lets_through extents.now access.now }
@@ -80,7 +80,8 @@ fn behind_misses<'a>(extents: &'a [Extent], access: &Access) -> &'a [Extent]
     rest
 }
 
-/// Whether the first extent with a byte of the access lets it through; where there is none, machine mode may.
+/// Returns whether the first extent with a byte of the access allows it. If no extent has one, only machine mode is
+/// allowed.
 #[inline(always)]
 fn lets_through(extents: &[Extent], access: &Access) -> bool
     requires { access.now.address < 2 ^ 56 }
@@ -95,7 +96,7 @@ fn lets_through(extents: &[Extent], access: &Access) -> bool
     is_machine(access.mode)
 }
 
-/// What the bank's list says of the access.
+/// Returns whether the bank's list allows the access.
 #[inline(always)]
 fn is_allowed(bank: &Bank, access: &Access) -> bool
     requires { access.now.address < 2 ^ 56 }
@@ -105,7 +106,7 @@ fn is_allowed(bank: &Bank, access: &Access) -> bool
     lets_through(bank.extents(), access)
 }
 
-/// Whether the access is at a multiple of its size, a power of two.
+/// Returns whether the address is a multiple of the size, which is a power of two.
 #[inline(always)]
 pub fn is_aligned(access: &Access) -> bool
     ensures { result ≡ (access.now.address % access.now.size == 0) }
@@ -113,7 +114,7 @@ pub fn is_aligned(access: &Access) -> bool
     access.address & (u64::from(access.size) - 1) == 0
 }
 
-/// The cause of an access that is at no multiple of its size.
+/// Returns the cause of a misaligned access.
 pub fn misaligned(kind: Kind) -> Cause
     ensures { result ≡ misaligned kind }
 {
@@ -124,7 +125,7 @@ pub fn misaligned(kind: Kind) -> Cause
     }
 }
 
-/// The cause of an access that is not let through.
+/// Returns the cause of a denied access.
 #[inline(always)]
 pub fn access_fault(kind: Kind) -> Cause
     ensures { result ≡ access_fault kind }
@@ -150,9 +151,9 @@ fn judged(bank: &Bank, access: &Access) -> Result<(), Cause>
     Ok(())
 }
 
-/// The outcome of the access under the entries that the bank's registers mean. It looks at nothing else, and takes
-/// no memory. (RISC-V Privileged Architecture, Physical Memory Protection, priority and matching logic; that a
-/// misaligned access comes before all else, and then one past the space, is this project's own order)
+/// Judges the access by the entries that the bank's registers mean, and by nothing else. Does not allocate. (RISC-V
+/// Privileged Architecture, Physical Memory Protection, priority and matching logic. This project reports a misaligned
+/// access first, and then one outside the space.)
 #[inline(always)]
 pub fn judge(bank: &Bank, access: &Access) -> Result<(), Cause>
     ensures by_its_list { (entries : List Entry) × HasList bank.now entries

@@ -1,13 +1,14 @@
-//! What a list of PMP entries says of an access, what it means for a list to mean a view, and why no shorter list can.
+//! The access decisions of a list of PMP entries, the views that lists mean, and the proof that no shorter list can
+//! mean a view.
 //!
-//! The entry of the lowest place whose region meets a byte of an access decides it: the region must hold all of its
-//! bytes and, outside machine mode, its permission the kind of the access. (RISC-V Privileged Architecture, Physical
-//! Memory Protection) A view is a permission for each page. A list means a view if supervisor and user may do just
-//! what the view lets them do, at every aligned access; a view needs n entries if some list of n means it and no list
-//! of fewer does. Nothing here takes memory.
+//! The first entry whose region contains a byte of an access decides it: the region must contain all of its bytes and,
+//! outside machine mode, the entry's permission must include the kind of the access. (RISC-V Privileged Architecture,
+//! Physical Memory Protection) A view is a permission for each page. A list means a view if supervisor and user mode
+//! may make exactly the aligned accesses that the view allows. A view needs n entries if some list of n entries means
+//! it and no shorter list does. Nothing here allocates.
 //!
-//! What the layers above use: `judge` is the judgement of an access by the bank's list, `Segments::judge` the same for
-//! many accesses by one bank, and no list that means a view has fewer entries than a sound bound of the view says.
+//! For the layers above: `judge` decides an access by the bank's list, `Segments::judge` does so faster for many
+//! accesses by one bank, and no list that means a view has fewer entries than a sound bound of the view.
 //!
 //! ```
 //! let bank = Bank::of(entries, Limit::Sixteen);
@@ -16,23 +17,24 @@
 //! // Ok(()), or the cause, as Err(Cause::LoadFault)
 //! ```
 //!
-//! What any PMP registers mean, of RV64 and of RV32: OFF, TOR, NA4 and NAPOT, locked or not, in any order.
+//! This crate also gives the meaning of any PMP registers of RV64 or RV32: OFF, TOR, NA4 and NAPOT, locked or not, in
+//! any order.
 //!
-//! An entry matches an [`Extent`] of addresses, by its mode: none where it is OFF; with TOR those from
-//! the address register of the entry before to before its own; with NA4 and NAPOT an aligned block.
-//! [`extents_of`] answers what each of the 64 entries matches, or the first entry that has a reserved
-//! value. Without Smepmp the lock bit L says nothing of supervisor and user mode. Of an address register a hart of RV64
-//! keeps bits 53:0, the others are zero there and are not looked at; one of RV32 keeps all 32, and has
-//! addresses below 2^34 alone. On a hart of sixteen entries the others are zero. Nothing here
-//! takes memory. (RISC-V Privileged Architecture, Physical Memory Protection)
+//! Each entry matches an [`Extent`] of addresses. It is empty if the entry is OFF; with TOR it goes from the previous
+//! entry's address register up to but excluding its own; with NA4 and NAPOT it is an aligned block. [`extents_of`]
+//! returns the extent of each of the 64 entries, or the first entry that has a reserved value. Without Smepmp the lock
+//! bit L does not affect supervisor and user mode. A hart of RV64 keeps bits 53:0 of an address register, and the other
+//! bits are ignored; a hart of RV32 keeps all 32 bits and has only addresses below 2^34. On a hart with sixteen entries
+//! the others are zero. Nothing here allocates. (RISC-V Privileged Architecture, Physical Memory Protection)
 //!
-//! `mseccfg` of Smepmp changes what the bits L, R, W and X of an entry give ([`Security`]). The extents are those of supervisor and
-//! user mode; [`machine_perm`] answers what an entry gives machine mode, and [`machine_default`] what that may do where no
-//! entry matches. (RISC-V Privileged Architecture, Smepmp)
+//! `mseccfg` of Smepmp changes the meaning of the bits L, R, W and X of an entry ([`Security`]). The extents are those
+//! of supervisor and user mode. [`machine_perm`] returns the permission that an entry gives machine mode, and
+//! [`machine_default`] that of machine mode for addresses that no entry matches. (RISC-V Privileged Architecture,
+//! Smepmp)
 //!
-//! What the layers above use: what supervisor and user mode may do under a list of extents, what it
-//! means for one to mean a view (`specs/Decision.antt`), and that a list of NA4 and NAPOT entries says
-//! what its extents say ([`instance_law`]).
+//! For the layers above: the accesses of supervisor and user mode that a list of extents allows, the views that it
+//! means (`specs/Decision.antt`), and the law that a list of NA4 and NAPOT entries allows the same accesses as its
+//! extents ([`instance_law`]).
 //!
 //! ```
 //! let extents = extents_of(&registers)?;

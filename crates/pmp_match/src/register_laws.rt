@@ -1,4 +1,4 @@
-//! What the extents of registers are, and that lists of NA4 and NAPOT entries are an instance.
+//! Laws of the extents of registers: lists of NA4 and NAPOT entries are a special case.
 
 ghost use Rattle.std.specs.Prelude.{◌≡◌, ◌≢◌, ◌<◌, ◌≤◌, ◌↔◌, ℕ, All, List};
 ghost use Rattle.pmp_encoding.specs.declared.extent.Extent.{Extent};
@@ -18,8 +18,8 @@ ghost use Rattle.pmp_match.specs.RegisterMatching.{AreExtents};
 ghost use Rattle.pmp_match.specs.Registers.{cfg_at, pairs_of};
 ghost use Rattle.pmp_match.specs.Reserved.{IsDefined};
 
-/// Registers have at most one list of extents, and none where an entry has a reserved value. Each
-/// extent is of whole words, and ends where the hart's space of addresses does, or before.
+/// Registers have at most one list of extents, and only if no entry has a reserved value. Each extent consists of whole
+/// four-byte words and ends within the hart's physical address space.
 pub fn extents_law()
     ensures one { (registers : Registers) (xs ys : List Extent)
         → AreExtents registers xs → AreExtents registers ys → xs ≡ ys }
@@ -32,9 +32,9 @@ pub fn extents_law()
         → AreExtents registers xs → All (λ x. x.end ≤ space_end registers.xlen) xs }
 {}
 
-/// A list of NA4 and NAPOT entries says of supervisor and user mode what its extents say; and so do
-/// registers that mean such a list, by which `decode` reads them, where the hart's address registers reach
-/// it, whatever `mseccfg` is. Those of RV64 reach each list.
+/// A list of NA4 and NAPOT entries allows supervisor and user mode the same accesses as its extents. So do registers
+/// that `decode` reads as that list, whatever `mseccfg` is, if the hart's address registers can express its regions.
+/// Those of RV64 can express every list.
 pub fn instance_law()
     ensures decision { (entries : List Entry) (a : Access) → a.mode ≢ Machine
         → Permits (matched_by entries) a ↔ Allows entries a }
@@ -50,8 +50,8 @@ pub fn instance_law()
         ↔ Means entries view }
 {}
 
-/// Extents mean a view exactly where they give each byte the view's permission of its page, and cut
-/// no access that the view lets through.
+/// Extents mean a view iff they give each byte the permission of its page, and the first match of each allowed access
+/// contains the whole access.
 pub fn registers_byte_law()
     ensures { (extents : List Extent) (view : View) → All IsWords extents
         → ExtentsMean extents view ↔ (IsGiven extents view × IsNeverCut extents view) }

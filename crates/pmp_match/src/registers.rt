@@ -3,8 +3,8 @@
 use crate::smepmp::Security;
 use pmp_encoding::Xlen;
 
-/// How wide the registers are, what `mseccfg` says, and the configuration bytes and the address registers of the entries 0 to 63,
-/// whatever they hold.
+/// The register width, the fields of `mseccfg`, and the configuration bytes and address registers of entries 0 to 63,
+/// with any values.
 #[derive(Clone, Copy, PartialEq, Eq)]
 pub struct Registers {
     pub xlen: Xlen,

@@ -1,15 +1,15 @@
 //! Reserved values of a configuration byte.
 
-/// A value that the architecture keeps for a later use. It says nothing of any access.
+/// A value that the architecture reserves for later use. It has no meaning for any access.
 #[derive(Clone, Copy, Debug, PartialEq, Eq)]
 pub enum Reserved {
-    /// W without R, where `mseccfg` does not set MML.
+    /// W without R while `mseccfg` does not set MML.
     Permission,
-    /// A bit of 6:5.
+    /// A nonzero bit of 6:5.
     Bits,
 }
 
-/// A reserved value and the entry that has it. Of two values of one entry the permission is named.
+/// A reserved value and the entry that has it. If an entry has both values, `Permission` is reported.
 #[derive(Clone, Copy, Debug, PartialEq, Eq)]
 pub struct ReservedAt {
     /// The number of the entry.

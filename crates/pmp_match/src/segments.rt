@@ -1,4 +1,4 @@
-//! A bank's list as segments of the space, for those who judge many accesses by it.
+//! A bank's list as segments of the space, which is faster for many accesses.
 
 ghost use Rattle.std.specs.Prelude.{◌≡◌, ◌+◌, ◌≤◌, ◌<◌, ◌||◌, if◌then◌else◌, true, Ok, Err, IfSome, All, List};
 ghost use Rattle.std.specs.List.Sorted.{IsSorted};
@@ -15,14 +15,15 @@ use crate::cause::Cause;
 use crate::judgement::{holds, is_aligned, is_machine, judge};
 use pmp_encoding::{Bank, Extent, Perm, SPACE_SIZE};
 
-/// How many segments are kept. The edges of sixty-four extents may leave one more, whose accesses the list itself decides.
+/// Maximum number of segments. The edges of 64 extents may leave one more, whose accesses are decided by the list
+/// itself.
 const SEGMENTS: usize = 128;
 
-/// How many edges there are: two for each of sixty-four extents, and those of the space.
+/// Number of edges: two for each of 64 extents, and the two ends of the space.
 const EDGES: usize = 130;
 
-/// Addresses from `base` to before `end` on which the list says one thing: the first extent with any of them has them
-/// all, and is of this permission, or no extent has any.
+/// Addresses from `base` up to but excluding `end` that the list treats alike: either the first extent with any of them
+/// contains them all and has this permission, or no extent contains any of them.
 #[derive(Clone, Copy)]
 struct Segment {
     base: u64,
@@ -30,8 +31,8 @@ struct Segment {
     perm: Perm,
 }
 
-/// What an aligned access within a segment comes to: by its kind where it is not allowed, and then where it is. A branch between them
-/// would be guessed wrong at every access that is not allowed.
+/// The outcomes of an aligned access within a segment: first those of denied accesses, by kind, then those of allowed
+/// ones. A table avoids a branch that would be mispredicted at every denied access.
 static OUTCOMES: [Result<(), Cause>; 6] = [
     Err(Cause::FetchFault),
     Err(Cause::LoadFault),
@@ -41,14 +42,14 @@ static OUTCOMES: [Result<(), Cause>; 6] = [
     Ok(()),
 ];
 
-/// What comes after the segments of a bank.
+/// Fills the unused places after the segments of a bank.
 const NOWHERE: Segment = Segment {
     base: SPACE_SIZE,
     end: SPACE_SIZE,
     perm: Perm::NoAccess,
 };
 
-/// The permission that decides each access from `base` to before `end`, where there is one.
+/// Returns the permission that decides every access between `base` and `end`, if a single one does.
 fn deciding_perm(extents: &[Extent], base: u64, end: u64) -> Option<Perm>
     ensures { IfSome result (λ perm. Decides extents.now base end perm) }
 {
@@ -63,7 +64,7 @@ fn deciding_perm(extents: &[Extent], base: u64, end: u64) -> Option<Perm>
     Some(Perm::NoAccess)
 }
 
-/// Where an extent or the space begins or ends, in rising order.
+/// Returns the ends of the extents and of the space, sorted.
 fn edges_of(extents: &[Extent]) -> [u64; EDGES]
     ensures { IsSorted nat_cmp result }
 {
@@ -79,7 +80,7 @@ fn edges_of(extents: &[Extent]) -> [u64; EDGES]
 }
 
 impl Segment {
-    /// The segment between two edges, where one permission decides each access within it.
+    /// Returns the segment between two edges, if a single permission decides every access within it.
     fn between(bank: &Bank, base: u64, end: u64) -> Option<Segment>
         ensures { IfSome result (λ segment. IsSegmentOf bank.now segment) }
     {
@@ -90,7 +91,7 @@ impl Segment {
         Some(Segment { base, end, perm })
     }
 
-    /// Whether each byte of the access is in the segment.
+    /// Returns whether the segment contains each byte of the access.
     #[inline(always)]
     fn has(&self, access: &Access) -> bool
         ensures { result ≡ true → IsWithin self.now.base self.now.end access.now }
@@ -100,7 +101,7 @@ impl Segment {
             && u64::from(access.size) <= self.end - access.address
     }
 
-    /// The outcome of an aligned access within the segment.
+    /// Judges an aligned access within the segment.
     #[inline(always)]
     fn judge(&self, access: &Access) -> Result<(), Cause>
         ensures { result ≡
@@ -112,7 +113,7 @@ impl Segment {
     }
 }
 
-/// The list of a bank, cut into the segments of the space on which it says one thing.
+/// The list of a bank, cut into segments that it treats alike.
 #[derive(Drop)]
 pub struct Segments<'a> {
     bank: &'a Bank,
@@ -124,7 +125,7 @@ pub struct Segments<'a> {
 impl<'a> Segments<'a> {
     ghost use Rattle.pmp_match.specs.SegmentedBank.{bank_of};
 
-    /// The segments of the bank's list. It takes no memory.
+    /// Cuts the bank's list into segments. Does not allocate.
     pub fn of(bank: &'a Bank) -> Segments<'a>
         ensures { bank_of result ≡ bank.now }
     {
@@ -146,8 +147,8 @@ impl<'a> Segments<'a> {
         }
     }
 
-    /// How far a search goes past a segment: a whole step where it begins at the address or below it, otherwise not at all. There
-    /// is no branch on what is compared: it would be guessed wrong every other time.
+    /// Returns how far a search advances past a segment: `step` if the segment begins at or below the address,
+    /// otherwise 0. The comparison is not a branch, because it would be mispredicted half of the time.
     #[inline(always)]
     fn step_past(&self, i: usize, address: u64, step: usize) -> usize
         requires { i < 128 }
@@ -156,8 +157,8 @@ impl<'a> Segments<'a> {
         step * usize::from(self.segments[i].base <= address)
     }
 
-    /// Where the last of `count` segments from `first` on is that begins at the address or below it, or the first of these.
-    /// Each step waits for the one before it, so it looks at three segments that do not wait for one another.
+    /// Returns the position of the last of `count` segments from `first` on that begins at or below the address, or
+    /// `first`. Each step depends on the previous one, so it tests three segments that do not depend on one another.
     #[inline(always)]
     fn last_begun(&self, address: u64, first: usize, count: usize) -> usize
         requires some { 0 < count }
@@ -176,7 +177,7 @@ impl<'a> Segments<'a> {
         at
     }
 
-    /// The segment that the address is in, where it is in one. A list with few extents is asked in fewer steps.
+    /// Returns the segment that contains the address, or any segment if none does. Short lists take fewer steps.
     #[inline(always)]
     fn near(&self, address: u64) -> Segment
         ensures { IsSegmentOf (bank_of self.now) result }
@@ -192,8 +193,7 @@ impl<'a> Segments<'a> {
         self.segments[at]
     }
 
-    /// The outcome of the access under the entries that the bank's registers mean, as [`judge`](crate::judge) says it. It
-    /// takes no memory.
+    /// Judges the access as [`judge`](crate::judge) does. Does not allocate.
     #[inline(always)]
     pub fn judge(&self, access: &Access) -> Result<(), Cause>
         ensures by_its_list { (entries : List Entry) × HasList (bank_of self.now) entries

@@ -1,4 +1,4 @@
-//! What `mseccfg` says of PMP, and what it makes of the configuration bytes of entries.
+//! The fields of `mseccfg` and their effect on the configuration bytes of entries.
 
 ghost use Rattle.std.specs.Prelude.{◌≡◌, ◌<◌, ◌^◌};
 ghost use Rattle.pmp_encoding.specs.Perms.{bits_of, perm_for};
@@ -6,8 +6,7 @@ ghost use Rattle.pmp_match.specs.Smepmp.{lockdown_rule, machine_default, machine
 
 use pmp_encoding::Perm;
 
-/// The bits of `mseccfg` by which entries give other permissions. RLB, bit 2, says which writes of registers are
-/// ignored, and nothing of accesses.
+/// The bits of `mseccfg` that change permissions. RLB, bit 2, only affects which register writes are ignored.
 #[derive(Clone, Copy, PartialEq, Eq, Debug)]
 pub struct Security {
     /// Machine mode lockdown, MML, bit 0.
@@ -20,7 +19,7 @@ impl Security {
     ghost use Rattle.std.specs.Prelude.{◌≡◌};
     ghost use Rattle.pmp_match.specs.Smepmp.{security_of};
 
-    /// What a value of `mseccfg` says: neither bit where it is 0, as on a hart without Smepmp.
+    /// Reads a value of `mseccfg`. Both bits are clear in 0, as on a hart without Smepmp.
     pub fn of(mseccfg: u64) -> Security
         ensures { result ≡ security_of mseccfg }
     {
@@ -31,7 +30,7 @@ impl Security {
     }
 }
 
-/// With MML set: what an entry gives machine mode, and what supervisor and user mode, by its bits L, R, W and X.
+/// The permissions of machine mode and of supervisor and user mode with MML set, by the bits L, R, W and X of an entry.
 static RULES: [(Perm, Perm); 16] = [
     (Perm::NoAccess, Perm::NoAccess),
     (Perm::NoAccess, Perm::Execute),
@@ -51,7 +50,7 @@ static RULES: [(Perm, Perm); 16] = [
     (Perm::Read, Perm::Read),
 ];
 
-/// The number of a byte's rule.
+/// Returns the index of a configuration byte in `RULES`.
 fn rule_of(cfg: u8) -> usize
     ensures value { result ≡ rule_of cfg }
     ensures small { result < 16 }
@@ -59,14 +58,14 @@ fn rule_of(cfg: u8) -> usize
     usize::from(cfg / 128 % 2 * 8 + cfg % 2 * 4 + cfg / 2 % 2 * 2 + cfg / 4 % 2)
 }
 
-/// What an entry gives machine mode, and what supervisor and user mode, with MML set.
+/// Returns the permissions of machine mode and of supervisor and user mode with MML set.
 fn lockdown_rule(cfg: u8) -> (Perm, Perm)
     ensures { result ≡ lockdown_rule cfg }
 {
     RULES[rule_of(cfg)]
 }
 
-/// What an entry gives supervisor and user mode, as R, W and X.
+/// Returns the bits R, W and X that an entry gives supervisor and user mode.
 fn user_bits(security: Security, cfg: u8) -> u8
     ensures value { result ≡ user_bits security cfg }
     ensures small { result < 8 }
@@ -78,7 +77,8 @@ fn user_bits(security: Security, cfg: u8) -> u8
     }
 }
 
-/// The configuration byte by which a hart without Smepmp gives supervisor and user mode the same, without L.
+/// Returns the configuration byte that gives supervisor and user mode the same permission on a hart without Smepmp,
+/// with L clear.
 pub(crate) fn user_cfg(security: Security, cfg: u8) -> u8
     ensures value { result ≡ user_cfg security cfg }
     ensures small { result < 2 ^ 7 }
@@ -86,7 +86,7 @@ pub(crate) fn user_cfg(security: Security, cfg: u8) -> u8
     cfg / 8 % 16 * 8 + user_bits(security, cfg)
 }
 
-/// The permission with these bits R, W and X.
+/// Returns the permission with these bits R, W and X.
 fn perm_for(bits: u8) -> Perm
     ensures { result ≡ perm_for bits }
 {
@@ -100,7 +100,7 @@ fn perm_for(bits: u8) -> Perm
     }
 }
 
-/// What an entry with this configuration byte, which has no reserved value, gives machine mode where it decides.
+/// Returns the permission of machine mode for accesses that this entry decides. The byte has no reserved value.
 pub fn machine_perm(security: Security, cfg: u8) -> Perm
     ensures { result ≡ machine_perm security cfg }
 {
@@ -113,7 +113,7 @@ pub fn machine_perm(security: Security, cfg: u8) -> Perm
     }
 }
 
-/// What machine mode may do where no entry matches.
+/// Returns the permission of machine mode for addresses that no entry matches.
 pub fn machine_default(security: Security) -> Perm
     ensures { result ≡ machine_default security }
 {

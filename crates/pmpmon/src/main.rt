@@ -1,4 +1,4 @@
-//! The program: the words of its command line, done on real files.
+//! The `pmpmon` program: parses its command line and performs the task on real files.
 #![tactic(auto)]
 
 use monitor_cli::{
@@ -9,7 +9,7 @@ use std::alloc::AllocError;
 use std::io::IsTerminal;
 use std::process::ExitCode;
 
-/// Does what is asked for on the task's files and on the program's streams, and answers its status.
+/// Performs a request on its files and on the program's streams, and returns the exit status.
 fn perform_task(rt: &HostRuntime, request: &Request<'_>) -> Result<u8, AllocError> {
     let lent = Lent {
         alloc: rt.alloc(),
@@ -21,7 +21,7 @@ fn perform_task(rt: &HostRuntime, request: &Request<'_>) -> Result<u8, AllocErro
     perform_on_files(&lent, rt.stdout(), &mut err, request, is_terminal)
 }
 
-/// Does what the words of the command line ask for. Where nothing can be done, an error is the status of the end.
+/// Parses the command line and performs the task. If that is impossible, the error is the exit status.
 fn perform(rt: &HostRuntime) -> Result<ExitCode, ExitCode> {
     let words = words_in(rt)?;
     let texts = texts_in(rt, words.as_slice())?;

@@ -1,4 +1,4 @@
--- The numbers of what may come of a device tree.
+-- The status codes for device trees.
 use Rattle.std.specs.Prelude.{◌≡◌, ◌⊎◌, ℕ, ℤ, pos}
 use Rattle.device_tree.specs.declared.rows.Extent.{Extent}
 use Rattle.device_tree.specs.declared.board_fault.BoardReason.TheVariants.{BadRows}
@@ -10,21 +10,21 @@ use Rattle.host_tree.specs.declared.fault.MakeFault.TheVariants.{NotUnderstood, 
 use Rattle.host_tree.specs.declared.fault.MakeFault.TheVariants.{NotWritten}
 use Rattle.host_tree.specs.declared.write_fault.WriteFault.TheVariants as writes
 
--- memory was refused, or the host's tree would have 4 GiB, for which there is none
+-- an allocation failed, or could not succeed because the host's tree would have 4 GiB
 abbrev pub IsMemory : HostTreeFault → Type 0
 IsMemory (NotRead fault) = fault.reason ≡ trees.Memory
 IsMemory (NotMade (NotUnderstood reason)) = reason ≡ BadRows rows.Memory
 IsMemory (NotMade BadCells) = ⊥
 IsMemory (NotMade (NotWritten fault)) = (fault ≡ writes.Memory) ⊎ (fault ≡ writes.TooLarge)
 
--- the tree is not read, or memory was refused
+-- the tree cannot be read, or an allocation failed
 abbrev pub IsTreeCode : ℤ → Type 0
 IsTreeCode code = (code ≡ pos 1) ⊎ (code ≡ pos 3)
 
--- it is not done: the tree is not read, its place has no room, or memory was refused
+-- nothing is written: the tree cannot be read, the host's does not fit, or an allocation failed
 abbrev pub IsCode : ℤ → Type 0
 IsCode code = (code ≡ pos 1) ⊎ ((code ≡ pos 2) ⊎ (code ≡ pos 3))
 
--- a base and a size
+-- the extent with this base and size
 abbrev pub range : ℕ → ℕ → Extent
 range base size = record { base = base; size = size }

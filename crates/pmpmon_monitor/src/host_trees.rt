@@ -1,4 +1,4 @@
-//! What firmware does with the device tree of a board before its host begins.
+//! Reads and prepares a board's device tree for firmware before the host begins.
 
 ghost use Rattle.std.specs.Prelude.{◌≡◌, ◌↔◌, ◌⊎◌, ◌++◌, IsTrue, List, ℕ, drop, length, pos};
 ghost use Rattle.host_tree.specs.HostTrees.{IsHosts, LeavesFree};
@@ -13,7 +13,7 @@ use host_tree::{
 };
 use std::alloc::Global;
 
-/// The numbers of what may come of it.
+/// The status codes.
 const DONE: i64 = 0;
 
 const NOT_READ: i64 = 1;
@@ -22,7 +22,7 @@ const NO_ROOM: i64 = 2;
 
 const NO_MEMORY: i64 = 3;
 
-/// Whether memory was refused, or would have been for a tree of 4 GiB.
+/// Returns whether an allocation failed, or could not succeed because the tree would have 4 GiB.
 fn is_memory(fault: HostTreeFault) -> bool
     ensures { IsTrue result ↔ IsMemory fault }
 {
@@ -38,7 +38,7 @@ fn is_memory(fault: HostTreeFault) -> bool
     }
 }
 
-/// The number of a fault.
+/// Returns the status code of a fault.
 fn code_of(fault: HostTreeFault) -> i64
     ensures memory { IsMemory fault → result ≡ pos 3 }
     ensures other { (IsMemory fault → ⊥) → result ≡ pos 1 }
@@ -50,8 +50,8 @@ fn code_of(fault: HostTreeFault) -> i64
     NOT_READ
 }
 
-/// Leaves of the platform what the board has whose tree the bytes begin with. It answers 0; 1 where the tree is not read, or 3 where
-/// memory was refused, and the platform is as it was.
+/// Clips the platform to the board whose tree `tree` begins with. Returns 0, or leaves the platform unchanged and
+/// returns 1 if the tree cannot be read or 3 if an allocation fails.
 #[unsafe(no_mangle)]
 pub extern "C" fn pmpmon_find_platform(
     alloc: Global,
@@ -61,7 +61,7 @@ pub extern "C" fn pmpmon_find_platform(
     ensures found { result ≡ pos 0 → IsFound tree.now platform.old platform.new }
     ensures code { (result ≡ pos 0) ⊎ IsTreeCode result }
     ensures refused { IsTreeCode result → platform.new ≡ platform.old }
-    // Why the tree is not read.
+    // The reason why the tree cannot be read.
     ensures unread { result ≡ pos 1 → (fault : HostTreeFault) × (IsMemory fault → ⊥)
         × IsBoardOfFault tree.now fault }
 {
@@ -71,9 +71,10 @@ pub extern "C" fn pmpmon_find_platform(
     }
 }
 
-/// Writes the host's tree in place of the board's, which the bytes begin with, with the range of the monitor reserved, and that of a
-/// pool of enclaves where it has a size; what is behind the tree stays. It answers 0; 1 where the tree is not read, 2 where the host's
-/// has no room, or 3 where memory was refused or the host's tree would have 4 GiB, and the bytes are as they were.
+/// Overwrites the board's tree, which `tree` begins with, with the host's, in which the monitor's range is reserved,
+/// and the pool of enclaves if it has a size; the bytes after the tree do not change. Returns 0, or leaves the bytes
+/// unchanged and returns 1 if the tree cannot be read, 2 if the host's does not fit, or 3 if an allocation fails or the
+/// host's tree would have 4 GiB.
 #[unsafe(no_mangle)]
 pub extern "C" fn pmpmon_put_host_tree(
     alloc: Global,
@@ -90,7 +91,7 @@ pub extern "C" fn pmpmon_put_host_tree(
         × LeavesFree (portion_in platform.now)
         (reserved_in platform.now (range pool_base pool_size)) tree.old out }
     ensures refused { IsCode result → tree.new ≡ tree.old }
-    // Why the tree is not read, and why the host's has no room.
+    // The reason why the tree cannot be read, and the reason why the host's does not fit.
     ensures unread { result ≡ pos 1 → (fault : HostTreeFault) × (IsMemory fault → ⊥)
         × IsHostTreeFault (reserved_in platform.now (range pool_base pool_size)) tree.old fault }
     ensures room { result ≡ pos 2 → IsPlaceFault platform.now (range pool_base pool_size)

@@ -1,9 +1,9 @@
-//! The monitor for firmware in C: the loop that serves the traps of the harts until nothing can be served, and what the firmware
-//! does at a trap.
+//! The monitor for firmware in C: serves traps, decides what the firmware does at each, and prepares device trees.
 //!
-//! The harts are reached by standard input and output, as C has them: firmware supplies `read`, `write` and `rattle_errno`, of
-//! which `firmware/serve.c` is one. What is read is the next frame, what is written the next answer (`docs/FORMATS.md`,
-//! "Frames"). C passes nothing to the loop: the three parameters have no size. The structs are those of `firmware/board.h`.
+//! The loop reaches the harts through C's standard input and output: the firmware supplies `read`, `write` and
+//! `rattle_errno`, as `firmware/serve.c` does. It reads frames and writes answers (`docs/formats/calls.md`, "Frames").
+//! C passes no arguments to `pmpmon_serve`, because its three parameters have no size. `firmware/board.h` declares the
+//! structs.
 //!
 //! ```c
 //! int64_t pmpmon_serve(void);
@@ -31,17 +31,17 @@ use std::alloc::Global;
 use std::io::{Stdin, Stdout};
 use trap_server::serve_on;
 
-/// Serves the traps until the input ends (0), a frame was refused (1), or a device failed (2 reading, 3 writing).
+/// Serves traps until the input ends (0), a frame is refused (1), or a device fails (2 reading, 3 writing).
 #[unsafe(no_mangle)]
 pub extern "C" fn pmpmon_serve(alloc: Global, from: Stdin, to: Stdout) -> i64
-    // (what standard input and output have is not known here)
+    // (the contents of standard input and output are unknown here)
     ensures { EndsWith (λ input. None) (λ output. None) from to served_number result }
 {
     serve_on(alloc, from, to)
 }
 
-/// What the firmware does at a trap of this cause in a world: 0 is the host, others are the ids of enclaves. The harts have the
-/// states that follow.
+/// Decides what the firmware does at a trap of this cause in a world (0 is the host, others are the ids of enclaves),
+/// and updates the states of the harts.
 #[unsafe(no_mangle)]
 pub extern "C" fn pmpmon_decide(
     world: u64,
@@ -58,7 +58,7 @@ pub extern "C" fn pmpmon_decide(
 {
     let decision = decide(world_of(world), cause, call, caller, bank, harts);
     let answer = action_of(decision);
-    // Word by word: copied whole, it would be copied byte by byte.
+    // Copied word by word, because a copy of the struct would go byte by byte.
     action.kind = answer.kind;
     action.error = answer.error;
     action.value = answer.value;

@@ -1,5 +1,5 @@
--- Blocks one inside the other: each but the smallest splits into a half that holds the next and one
--- of one permission.
+-- Nested blocks: each except the smallest splits into a half that contains the next one and a
+-- uniform half.
 use Rattle.std.specs.Prelude.{◌≡◌, ◌≢◌, ℕ, zero, suc, ◌+◌, ◌-◌, ◌*◌, ◌^◌, ◌<◌, ◌≤◌, Bool, cond, ltb}
 use Rattle.std.specs.Prelude.{nat_le}
 use Rattle.pmp_encoding.specs.declared.perm.Perm.{Perm}
@@ -8,19 +8,19 @@ use Rattle.prefix_tree.specs.declared.chains.Edges.{Edges}
 use Rattle.prefix_tree.specs.declared.chains.Part.{Part}
 use Rattle.prefix_tree.specs.Trees.{PermTree, Uniform, Split}
 
--- a block 2 ^ n times as large as one that lies in it after that many of its size, with one
--- permission before that and one after it
+-- a block 2 ^ n times as large as one inside it, which `place` blocks of its size precede, with one
+-- permission before that block and one after it
 abbrev pub nested : ℕ → ℕ → Perm → Perm → PermTree → PermTree
 nested zero place before behind tree = tree
 nested (suc n) place before behind tree =
     cond (ltb place (2 ^ n)) (Split (nested n place before behind tree) (Uniform behind))
     (Split (Uniform before) (nested n (place - 2 ^ n) before behind tree))
 
--- the largest block of a chain, by its smallest
+-- the largest block of a chain, given its smallest
 abbrev pub chained : Chain → PermTree → PermTree
 chained chain tree = nested chain.levels chain.place chain.before chain.behind tree
 
--- some block is split, none larger than the space, and the smallest lies in the largest
+-- a chain has 1 to 44 split blocks, and the smallest block lies in the largest
 pub record IsChain (chain : Chain) : Type 0 where
   pub some : 0 < chain.levels
   pub most : chain.levels ≤ 44
@@ -30,7 +30,7 @@ pub record IsChain (chain : Chain) : Type 0 where
 abbrev pub goes_up : Chain → Bool
 goes_up chain = nat_le (2 ^ (chain.levels - 1)) chain.place
 
--- the chain of all but the largest block
+-- the chain without its largest block
 abbrev pub smaller : Chain → Chain
 smaller chain = record {
   levels = chain.levels - 1;
@@ -39,8 +39,8 @@ smaller chain = record {
   behind = chain.behind;
 }
 
--- from the page `first` on and before the page `end`, the view has one permission before its edges
--- and one after them
+-- the edges of a view from the page `first` up to but excluding `end`: it has one permission before
+-- the first edge and one from the last on
 pub record AreEdges (view : ℕ → Perm) (first end : ℕ) (edges : Edges) : Type 0 where
   pub low : first < edges.low
   pub rising : edges.low ≤ edges.high
@@ -49,8 +49,8 @@ pub record AreEdges (view : ℕ → Perm) (first end : ℕ) (edges : Edges) : Ty
   pub before : (page : ℕ) → first ≤ page → page < edges.low → view page ≡ edges.before
   pub behind : (page : ℕ) → edges.high ≤ page → page < end → view page ≡ edges.behind
 
--- the part of the 2 ^ height pages from `first` on that is left where they are halved so often has
--- all the edges inside
+-- a part of the 2 ^ height pages from `first` on, which remains after halving them `levels` times,
+-- contains all the edges inside
 pub record IsPartAround (first height low high levels place start : ℕ) : Type 0 where
   pub within : levels ≤ height
   pub placed : place < 2 ^ levels

@@ -21,7 +21,7 @@ abbrev pub written : PermTree → List ℕ → List ℕ
 written (Uniform q) rest = suc (index_of q) ∷ rest
 written (Split lower upper) rest = written lower (written upper (0 ∷ rest))
 
--- the two trees that were read last become one
+-- the two trees that were read last become the halves of one
 abbrev pub joined : List PermTree → List PermTree
 joined [] = []
 joined (upper ∷ []) = []

@@ -3,14 +3,15 @@ use Rattle.std.specs.Prelude.{ℕ, ◌+◌, ◌^◌, ◌<◌, ◌≤◌, List, [
 use Rattle.permission_map.specs.declared.runs.Run.{Run}
 use Rattle.permission_map.specs.Runs.{end_of, AreRuns}
 
--- a run from page `at` on that has a page from `low` on and before `high`
+-- a run at or after page `at` that has a page in `low` up to but excluding `high`
 pub record MeetsBehind (at low high : ℕ) (run : Run) : Type 0 where
   pub rising : at ≤ run.first
   pub some : 0 < run.count
   pub begins : run.first < high
   pub ends : low < end_of run
 
--- runs by rising page, from `at` on, each of which has a page from `low` on and before `high`
+-- runs by ascending page, from `at` on, each of which has a page in `low` up to but excluding
+-- `high`
 abbrev pub MeetBehind : ℕ → ℕ → ℕ → List Run → Type 0
 MeetBehind at low high [] = ⊤
 MeetBehind at low high (run ∷ runs) = MeetsBehind at low high run

@@ -1,9 +1,9 @@
--- Trees of blocks of one permission, and the views that they give.
+-- Trees of uniform blocks, and the views that they give.
 use Rattle.std.specs.Prelude.{◌≡◌, ◌≢◌, ℕ, zero, suc, ◌+◌, ◌-◌, ◌^◌, ◌<◌, cond, ltb}
 use Rattle.pmp_encoding.specs.declared.perm.Perm.{Perm}
 use Rattle.pmp_encoding.specs.Views.{IsUniform}
 
--- a block of one permission, or one split into a lower and an upper half
+-- a uniform block, or one split into a lower and an upper half
 pub data PermTree : Type 0 where
   Uniform : Perm → PermTree
   Split : PermTree → PermTree → PermTree
@@ -19,8 +19,8 @@ TreeMeansAt view (suc k) first (Split lower upper) = TreeMeansAt view k first lo
 abbrev pub TreeMeans : (ℕ → Perm) → PermTree → Type 0
 TreeMeans view tree = TreeMeansAt view 44 0 tree
 
--- the permission of a page of a block of 2 ^ k pages, by its place in the block; a tree that fits
--- is not split below a page
+-- the permission of a page of a block of 2 ^ k pages, by its position in the block; a tree that
+-- fits is not split below a page
 abbrev pub perm_in : PermTree → ℕ → ℕ → Perm
 perm_in (Uniform q) k i = q
 perm_in (Split lower upper) zero i = perm_in lower zero i
@@ -31,13 +31,13 @@ perm_in (Split lower upper) (suc k) i =
 abbrev pub view_of_tree : PermTree → ℕ → Perm
 view_of_tree tree page = perm_in tree 44 page
 
--- the tree is split at most k times on each way down, so that no block is smaller than a page
+-- the tree is split at most k times on each path down, so that no block is smaller than a page
 abbrev pub Fits : ℕ → PermTree → Type 0
 Fits k (Uniform q) = Unit {0}
 Fits zero (Split lower upper) = ⊥
 Fits (suc k) (Split lower upper) = Fits k lower × Fits k upper
 
--- no split block has one permission
+-- no split block is uniform
 abbrev pub IsCanonical : PermTree → Type 0
 IsCanonical (Uniform q) = Unit {0}
 IsCanonical (Split lower upper) = ((q : Perm) → lower ≡ Uniform q → upper ≡ Uniform q → ⊥)
@@ -52,6 +52,6 @@ SplitsOnlyMixedAt view (suc k) first (Split lower upper) =
     × SplitsOnlyMixedAt view k first lower
     × SplitsOnlyMixedAt view k (first + 2 ^ k) upper
 
--- a tree of the whole space splits only blocks that are not uniform
+-- a tree of the whole space splits only blocks with two permissions
 abbrev pub SplitsOnlyMixed : (ℕ → Perm) → PermTree → Type 0
 SplitsOnlyMixed view tree = SplitsOnlyMixedAt view 44 0 tree

@@ -1,4 +1,4 @@
-//! Blocks of a tree.
+//! The blocks of a tree.
 
 ghost use Rattle.std.specs.Prelude.{◌≡◌, IfOk};
 
@@ -6,27 +6,27 @@ use pmp_encoding::Perm;
 use std::alloc::{AllocError, Global};
 use std::rc::Rc;
 
-/// What is counted in a split block, so that a new version need not walk the halves that it shares.
+/// Counts of a split block, stored so that a new version need not walk the halves that it shares.
 #[derive(Clone, Copy)]
 pub struct Summary {
     /// The permission of the first page.
     pub first: Perm,
     /// The permission of the last page.
     pub last: Perm,
-    /// How many runs start after the first page.
+    /// The number of runs that start after the first page.
     pub starts: u64,
-    /// How many blocks are split, this one among them.
+    /// The number of split blocks, including this one.
     pub branches: usize,
 }
 
-/// An aligned block of pages: of one permission, or split into two halves that other versions may share.
+/// An aligned block of pages: uniform, with one permission, or split into two halves that other versions may share.
 #[derive(Drop)]
 pub enum Block {
     Leaf(Perm),
     Branch(Rc<(Block, Block, Summary)>),
 }
 
-/// What a block is made of.
+/// The parts of a block.
 #[derive(Clone, Copy)]
 pub enum Parts<'a> {
     /// Every page of the block has this permission.
@@ -41,7 +41,7 @@ impl Block {
     ghost use Rattle.prefix_tree.specs.PartsOf.{IsPartsOf};
     ghost use Rattle.prefix_tree.specs.Joined.{one_perm};
 
-    /// The permission of the block, or its two halves. The lower half has the lower addresses.
+    /// Returns the permission of a uniform block, or the two halves. The lower half has the lower addresses.
     pub fn parts(&self) -> Parts<'_>
         ensures { IsPartsOf result (shape_of self.now) }
     {
@@ -51,7 +51,7 @@ impl Block {
         }
     }
 
-    /// The one permission of a block that is not split.
+    /// Returns the permission of a block that is not split.
     pub fn one_perm(&self) -> Option<Perm>
         ensures { result ≡ one_perm (shape_of self.now) }
     {
@@ -61,7 +61,7 @@ impl Block {
         }
     }
 
-    /// What is counted in the block.
+    /// Returns the counts of the block.
     pub fn summary(&self) -> Summary
         requires { IsSummed self.now }
         ensures first { result.first ≡ first_perm (shape_of self.now) }
@@ -80,7 +80,7 @@ impl Block {
         }
     }
 
-    /// Another owner of the same block. It takes no memory.
+    /// Returns another owner of the same block. Does not allocate.
     pub fn share(&self) -> Result<Block, AllocError>
         requires { IsSummed self.now }
         ensures shape { IfOk result (λ b. shape_of b ≡ shape_of self.now) }

@@ -1,4 +1,4 @@
-//! Chains: blocks one inside the other.
+//! Chains of nested blocks.
 
 ghost use Rattle.std.specs.Prelude.{◌≡◌, ◌+◌, ◌^◌, ◌<◌, ◌≤◌, ◌∷◌, [], None};
 ghost use Rattle.permission_map.specs.Runs.{end_of, view_of_runs};
@@ -10,23 +10,23 @@ ghost use Rattle.prefix_tree.specs.TreeOf.{tree_at};
 use permission_map::Run;
 use pmp_encoding::{Perm, pages_of};
 
-/// Blocks one inside the other: each but the smallest splits into a half that holds the next and one of one permission.
+/// Nested blocks: each except the smallest splits into a half that contains the next one and a uniform half.
 #[derive(Clone, Copy)]
 pub struct Chain {
-    /// How many of the blocks are split so.
+    /// The number of blocks that split in this way.
     pub levels: u32,
-    /// How many blocks of the smallest one's size come before it in the largest.
+    /// The number of blocks of the smallest one's size that precede it in the largest.
     pub place: u64,
-    /// The permission of the pages before the smallest.
+    /// The permission of the pages before the smallest block.
     pub before: Perm,
-    /// The permission of the pages after it.
+    /// The permission of the pages after the smallest block.
     pub behind: Perm,
 }
 
 impl Chain {
     ghost use Rattle.prefix_tree.specs.Chains.{goes_up, smaller};
 
-    /// Whether the next smaller block is the upper half of the largest.
+    /// Returns whether the next smaller block is the upper half of the largest.
     pub fn goes_up(self) -> bool
         requires some { 0 < self.levels }
         requires most { self.levels ≤ 44 }
@@ -35,7 +35,7 @@ impl Chain {
         pages_of(self.levels - 1) <= self.place
     }
 
-    /// The chain of all but the largest block.
+    /// Returns the chain without its largest block.
     pub fn smaller(self) -> Chain
         requires some { 0 < self.levels }
         requires most { self.levels ≤ 44 }
@@ -55,7 +55,8 @@ impl Chain {
     }
 }
 
-/// The first and the last page of a block that differ from the page before them, and the permissions around.
+/// The first and the last page of a block that differ from the page before them, with the permissions before the first
+/// and from the last on.
 #[derive(Clone, Copy)]
 pub struct Edges {
     pub low: u64,
@@ -64,16 +65,16 @@ pub struct Edges {
     pub behind: Perm,
 }
 
-/// A part of a block: what is left where it is halved so often.
+/// A part of a block: one of the equal parts that remain after halving the block `levels` times.
 #[derive(Clone, Copy)]
 pub struct Part {
     pub levels: u32,
-    /// How many parts of its size come before it in the block.
+    /// The number of parts of this size that precede it in the block.
     pub place: u64,
     pub first: u64,
 }
 
-/// The edges inside the 2^height pages from `first` on, which one run meets.
+/// Returns the edges inside the 2^height pages from `first` on, which meet only this run.
 pub fn edges_of(run: &Run, first: u64, height: u32) -> Edges
     requires block { AreBlockRuns (run.now ∷ []) first height }
     requires cut { one_perm (tree_at (view_of_runs (run.now ∷ [])) height first) ≡ None }
@@ -106,8 +107,9 @@ pub fn edges_of(run: &Run, first: u64, height: u32) -> Edges
     }
 }
 
-/// The smallest part of the 2^height pages from `first` on that has all the edges inside. The pages before the first edge
-/// and at the last lie in one part where their places in the block differ in the digits below alone.
+/// Returns the smallest part of the 2^height pages from `first` on that contains all the edges inside. The page before
+/// the first edge and the page at the last lie in one part iff their positions in the block differ only in lower
+/// digits.
 pub fn part_around(first: u64, height: u32, edges: Edges) -> Part
     requires height { height ≤ 44 }
     requires space { first + 2 ^ height ≤ 2 ^ 44 }

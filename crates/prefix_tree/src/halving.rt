@@ -1,4 +1,4 @@
-//! What splits into halves: blocks of a tree or of a map.
+//! A trait for blocks that split into halves, of a tree or of a map.
 
 ghost use Rattle.std.specs.Prelude.{◌≡◌, IfSome, None};
 ghost use Rattle.prefix_tree.specs.Chains.{IsChain, chained};
@@ -10,23 +10,23 @@ use crate::blocks::Block;
 use crate::chains::Chain;
 use pmp_encoding::Perm;
 
-/// A block of pages that is of one permission or splits into two halves. What walks a tree from the top walks anything
-/// that halves: the blocks of a tree, or those of a map, for which no tree is made.
+/// A block of pages that is uniform or splits into two halves. Code that walks a tree from the top can walk any such
+/// block: those of a tree, or those of a map, for which no tree is built.
 pub trait Halving: Drop {
     ghost shape: { Self → PermTree };
 
-    /// The one permission of a block that is not split.
+    /// Returns the permission of a block that is not split.
     fn one_perm(&self) -> Option<Perm>
         ensures { result ≡ one_perm (shape self.now) };
 
-    /// The chain down to a smaller block that has all the edges of a block that is split, where such a one is known. Of
-    /// the blocks of a map that are split nearly all are in chains.
+    /// Returns the chain from a split block down to a smaller block that contains all of its edges, if one is known.
+    /// Nearly all split blocks of a map are in chains.
     fn chain(&self) -> Option<(Chain, Self)>
         requires { one_perm (shape self.now) ≡ None }
         ensures { IfSome result (λ r. IsChain r.0
             × (shape self.now ≡ chained r.0 (shape r.1))) };
 
-    /// The two halves of a block that is split, the lower first.
+    /// Returns the two halves of a split block, the lower first.
     fn halves(&self) -> (Self, Self)
         requires { one_perm (shape self.now) ≡ None }
         ensures { shape self.now ≡ Split (shape result.0) (shape result.1) };

@@ -1,4 +1,4 @@
-//! Two halves joined to a block.
+//! Joins two halves to a block.
 
 ghost use Rattle.std.specs.Prelude.{◌≡◌, IfOk};
 ghost use Rattle.prefix_tree.specs.Trees.{Fits, Split};
@@ -11,7 +11,7 @@ use pmp_encoding::Perm;
 use std::alloc::{AllocError, Global};
 use std::rc::Rc;
 
-/// How many runs start at a page with the permission `perm` after one with the permission `before`.
+/// Returns 1 if a run starts at a page with permission `perm` that follows one with permission `before`, otherwise 0.
 pub fn starts_behind(before: Perm, perm: Perm) -> u64
     ensures { result ≡ starts before perm }
 {
@@ -21,7 +21,7 @@ pub fn starts_behind(before: Perm, perm: Perm) -> u64
     1
 }
 
-/// What is counted in the block of two halves.
+/// Returns the counts of the block with these halves.
 #[tactic(auto, using(crate::proofs::Counted::splits_small, crate::proofs::Counted::starts_inside_small, crate::proofs::Counted::starts_most))]
 fn summary_of(lower: &Block, upper: &Block) -> Summary
     requires lower_fits { Fits 43 (shape_of lower.now) }
@@ -41,7 +41,7 @@ fn summary_of(lower: &Block, upper: &Block) -> Summary
     }
 }
 
-/// The block that is split into two halves.
+/// Returns the block that is split into these halves.
 pub fn split(alloc: Global, lower: Block, upper: Block) -> Result<Block, AllocError>
     requires lower_fits { Fits 43 (shape_of lower) }
     requires upper_fits { Fits 43 (shape_of upper) }
@@ -54,7 +54,7 @@ pub fn split(alloc: Global, lower: Block, upper: Block) -> Result<Block, AllocEr
     Ok(Block::Branch(Rc::new(alloc, (lower, upper, summary))?))
 }
 
-/// The block of two halves: split, unless both are of one permission.
+/// Returns the block with these halves, which is split unless both are uniform with the same permission.
 pub fn join(alloc: Global, lower: Block, upper: Block) -> Result<Block, AllocError>
     requires lower_fits { Fits 43 (shape_of lower) }
     requires upper_fits { Fits 43 (shape_of upper) }
@@ -69,7 +69,7 @@ pub fn join(alloc: Global, lower: Block, upper: Block) -> Result<Block, AllocErr
     split(alloc, lower, upper)
 }
 
-/// The permission of both halves, if each is of one and it is the same.
+/// Returns the permission of both halves, if both are uniform with the same one.
 fn shared_perm(lower: &Block, upper: &Block) -> Option<Perm>
     ensures { result ≡ shared_perm (shape_of lower.now) (shape_of upper.now) }
 {
@@ -81,7 +81,7 @@ fn shared_perm(lower: &Block, upper: &Block) -> Option<Perm>
     None
 }
 
-/// How many runs the whole space has.
+/// Returns the number of runs of the whole space.
 #[tactic(auto, using(crate::proofs::Counted::starts_inside_whole, crate::proofs::Counted::starts_most))]
 pub fn run_count(root: &Block) -> u64
     requires fits { Fits 44 (shape_of root.now) }

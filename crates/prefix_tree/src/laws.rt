@@ -1,11 +1,11 @@
-//! Laws of trees: what a tree means, and that a view has one canonical tree.
+//! Laws of trees: the views they mean, and the uniqueness of the canonical tree.
 
 ghost use Rattle.std.specs.Prelude.{◌≡◌, ◌^◌, ◌<◌, ℕ};
 ghost use Rattle.pmp_encoding.specs.declared.perm.Perm.{Perm};
 ghost use Rattle.prefix_tree.specs.TreeOf.{tree_of};
 ghost use Rattle.prefix_tree.specs.Trees.{PermTree, TreeMeans, view_of_tree, Fits, IsCanonical, SplitsOnlyMixed};
 
-/// A tree means its own view, and no other at any page of the space.
+/// A tree means its own view, and every view that it means is equal to that one on all pages of the space.
 pub fn meaning_law()
     ensures own { (tree : PermTree) → Fits 44 tree → TreeMeans (view_of_tree tree) tree }
     ensures other { (view : ℕ → Perm) (tree : PermTree) → TreeMeans view tree → (page : ℕ)
@@ -13,8 +13,8 @@ pub fn meaning_law()
         → view_of_tree tree page ≡ view page }
 {}
 
-/// A view has one canonical tree, that of its definition: two of the same view are the same tree, and what it splits is of
-/// two permissions.
+/// Each view has exactly one canonical tree, `tree_of` the view, and each block that it splits contains two
+/// permissions.
 pub fn canonical_law()
     ensures one { (view : ℕ → Perm) (a b : PermTree) → IsCanonical a → IsCanonical b
         → TreeMeans view a

@@ -1,16 +1,17 @@
-//! A view of the physical address space as a canonical tree of aligned blocks, in versions that share what did not change.
+//! A view of the physical address space as a canonical tree of aligned blocks; versions share unchanged blocks.
 //!
-//! The root is the space of `2 ^ 44` pages of 4096 bytes. A [`Block`] is of one permission, or split into two halves, and
-//! only blocks of more than one permission are split, so that a view has just one tree. Halves are held by `Rc`: contracts
-//! see a tree as its shape (`PermTree` in `specs/Trees.antt`), which knows no pointers. The layers above use four facts:
+//! The root is the space of `2 ^ 44` pages of 4096 bytes. A [`Block`] has one permission or is split into two halves.
+//! Only blocks with more than one permission are split, so each view has exactly one tree. Halves are held by `Rc`:
+//! contracts see a tree as its shape (`PermTree` in `specs/Trees.antt`), which has no pointers. The layers above use
+//! four facts:
 //!
-//! - [`build`] gives the tree that means the map's view, and is canonical;
-//! - [`Tree::with_range`] gives the tree that means the old view with the range overwritten, and is canonical; it is refused
-//!   as `set_range` of a map is, and the old tree stays;
-//! - [`Tree::root`] and [`Block::parts`] walk the shape, which is split at most 44 times on each way down;
-//! - two canonical trees of one view are the same ([`canonical_law`]), and a tree means its own view ([`meaning_law`]).
+//! - [`build`] returns the canonical tree that means the map's view;
+//! - [`Tree::with_range`] returns the canonical tree that means the old view with the range overwritten; it fails as
+//!   `set_range` of a map does, and the old tree stays;
+//! - [`Tree::root`] and [`Block::parts`] walk the shape, which is split at most 44 times on each path down;
+//! - two canonical trees of one view are equal ([`canonical_law`]), and a tree means its own view ([`meaning_law`]).
 //!
-//! A tree is at most 44 blocks deep, and so is every recursion over it, also the one that lets it go.
+//! A tree is at most 44 blocks deep, which bounds every recursion over it, including the one that drops it.
 //!
 //! ```text
 //! let tree = build(alloc, &map)?;

@@ -1,4 +1,4 @@
-//! Blocks of a map, for which no tree is made.
+//! The blocks of a map, for which no tree is built.
 
 ghost use Rattle.std.specs.Prelude.{◌≡◌, ◌*◌, ◌≤◌, length, count_by, nat_lt, nat_le, ◌-◌};
 ghost use Rattle.permission_map.specs.Runs.{AreRuns, view_of_runs};
@@ -14,7 +14,8 @@ use permission_map::{PermissionMap, Run};
 use pmp_encoding::{Perm, pages_of};
 use std::marker::Model;
 
-/// A block of the pages of a map, with the runs that have a page in it. It is seen as the canonical tree of its view.
+/// A block of the pages of a map, with the runs that have a page in it. Contracts see it as the canonical tree of its
+/// view.
 #[derive(Drop)]
 pub struct MapBlock<'a> {
     runs: &'a [Run],
@@ -39,11 +40,11 @@ impl<'a> Model for MapBlock<'a> {
     ghost invariant = { λ b. AreBlockRuns b.runs.now b.first b.height };
 }
 
-/// The most runs that are counted one by one, which takes no branch on a run. More are searched by halves: the counts of a
-/// block's runs at each height would be as many steps as there are runs, for each height again.
+/// Maximum number of runs that are counted one by one, which needs no branch on a run. More runs are searched by
+/// bisection: counting one by one would visit all of them again at each height.
 const FEW: usize = 8;
 
-/// How many of the runs begin before the page.
+/// Counts the runs that begin before the page.
 fn begun_before(runs: &[Run], page: u64) -> usize
     requires { AreRuns runs.now }
     ensures count { result ≡ count_by (λ run. nat_lt run.first page) runs.now }
@@ -55,7 +56,7 @@ fn begun_before(runs: &[Run], page: u64) -> usize
     runs.iter().filter(|run| run.first < page).count()
 }
 
-/// How many of the runs end before the page: those that begin before it, but the last of these where it goes on.
+/// Counts the runs that end before the page: those that begin before it, except the last if it continues to the page.
 fn ended_before(runs: &[Run], begun: usize, page: u64) -> usize
     requires runs { AreRuns runs.now }
     requires inside { begun ≤ length runs.now }
@@ -72,7 +73,8 @@ fn ended_before(runs: &[Run], begun: usize, page: u64) -> usize
     begun
 }
 
-/// The one permission of the 2^height pages from `first` on, which the runs meet.
+/// Returns the permission of the 2^height pages from `first` on, given the runs that meet them, if the pages are
+/// uniform.
 fn uniform_perm(runs: &[Run], first: u64, height: u32) -> Option<Perm>
     requires { AreBlockRuns runs.now first height }
     ensures { result ≡ one_perm (tree_at (view_of_runs runs.now) height first) }
@@ -88,8 +90,8 @@ fn uniform_perm(runs: &[Run], first: u64, height: u32) -> Option<Perm>
 }
 
 impl<'a> MapBlock<'a> {
-    /// The whole space, as the map has it. At most 88 blocks are split for each run of the map: 44 on the way down to
-    /// either end of it.
+    /// Returns the whole space of a map. It has at most 88 split blocks for each run of the map: 44 on the path down to
+    /// either end of the run.
     pub fn of(map: &'a PermissionMap) -> MapBlock<'a>
         ensures tree { result ≡ tree_of (view_of_runs map.now) }
         ensures fits { Fits 44 result }

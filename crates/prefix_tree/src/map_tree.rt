@@ -1,4 +1,4 @@
-//! A tree built of a map.
+//! Builds a tree from a map.
 
 ghost use Rattle.std.specs.Prelude.{◌≡◌, IfOk};
 ghost use Rattle.prefix_tree.specs.Shapes.{shape_of, IsSummed};
@@ -10,7 +10,7 @@ use crate::join::split;
 use crate::map_blocks::MapBlock;
 use std::alloc::{AllocError, Global};
 
-/// The block of a tree for a block of a map.
+/// Builds the block of a tree from a block of a map.
 pub fn build_block(alloc: Global, block: &MapBlock<'_>) -> Result<Block, AllocError>
     requires { Fits 44 block.now }
     ensures shape { IfOk result (λ b. shape_of b ≡ block.now) }

@@ -1,4 +1,4 @@
-//! A version of a tree with a range overwritten.
+//! Builds a version of a tree with a range overwritten.
 
 ghost use Rattle.std.specs.Prelude.{◌≡◌, ◌+◌, ◌^◌, ◌≤◌, ◌<◌, ℕ, IfOk};
 ghost use Rattle.pmp_encoding.specs.declared.perm.Perm.{Perm};
@@ -14,18 +14,18 @@ use permission_map::Run;
 use pmp_encoding::pages_of;
 use std::alloc::{AllocError, Global};
 
-/// How a block lies to a run of pages.
+/// The position of a block relative to a run of pages.
 #[derive(Clone, Copy)]
 enum Overlap {
     /// No page of the block is in the run.
     Apart,
     /// Every page of the block is in the run.
     Within,
-    /// The block is of more than one page, and may have pages in the run and outside it.
+    /// The block has more than one page, and may have pages both in the run and outside it.
     Partly,
 }
 
-/// How the block of the 2^height pages from `first` on lies to the run.
+/// Returns the position of the 2^height pages from `first` on relative to the run.
 fn overlap_of(run: &Run, first: u64, height: u32) -> Overlap
     requires height { height ≤ 44 }
     requires first { first + 2 ^ height ≤ 2 ^ 44 }
@@ -43,7 +43,7 @@ fn overlap_of(run: &Run, first: u64, height: u32) -> Overlap
     Overlap::Partly
 }
 
-/// The two halves of a block. Those of a block of one permission are as it is itself.
+/// Returns the two halves of a block. Both halves of a uniform block are represented by the block itself.
 fn halves_of(block: &Block) -> (&Block, &Block)
     requires { IsSummed block.now }
     ensures lower { shape_of result.0.now ≡ lower_half (shape_of block.now) }
@@ -57,7 +57,8 @@ fn halves_of(block: &Block) -> (&Block, &Block)
     }
 }
 
-/// The block of the 2^height pages from `first` on, with the pages of the run overwritten. Blocks that do not meet the run are shared.
+/// Returns the block of the 2^height pages from `first` on with the pages of the run overwritten. Blocks that do not
+/// meet the run are shared.
 pub fn overwritten_block(
     alloc: Global,
     block: &Block,

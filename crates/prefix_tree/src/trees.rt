@@ -21,7 +21,7 @@ use pmp_encoding::{Perm, SPACE_PAGES};
 use std::alloc::Global;
 use std::marker::Model;
 
-/// How many maximal runs of a permission other than none a view may have.
+/// Maximum number of maximal runs of a permission other than none that a view may have.
 const MOST_RUNS: u64 = 4096;
 
 /// The canonical tree of a view of the 2^44 pages of the space. Contracts see its shape.
@@ -46,9 +46,9 @@ impl Model for Tree {
     ghost invariant = { λ t. IsRoot t.root };
 }
 
-/// The tree of the map's view. It splits just the blocks of more than one permission.
+/// Builds the tree of the map's view. It splits exactly the blocks that have more than one permission.
 ///
-/// The work is in proportion to the blocks that the edges of the map's runs cut, at most 44 for each edge.
+/// The time is proportional to the number of blocks that the edges of the map's runs cut, at most 44 for each edge.
 pub fn build(alloc: Global, map: &PermissionMap) -> Result<Tree, Memory>
     ensures means { IfOk result (λ t. TreeMeans (view_of_runs map.now) t) }
     ensures canonical { IfOk result (λ t. IsCanonical t) }
@@ -59,7 +59,7 @@ pub fn build(alloc: Global, map: &PermissionMap) -> Result<Tree, Memory>
 }
 
 impl Tree {
-    /// The block of the whole space, from which the tree is walked.
+    /// Returns the block of the whole space.
     pub fn root(&self) -> &Block
         ensures shape { shape_of result.now ≡ self.now }
         ensures fits { Fits 44 self.now }
@@ -68,12 +68,12 @@ impl Tree {
         &self.root
     }
 
-    /// The tree of the view with the permission in the `count` pages from `first` on. This tree stays as it is.
+    /// Returns the tree of the view with the permission in the `count` pages from `first` on. This tree is unchanged.
     ///
-    /// New blocks are made only where the range is met, at most 44 on either end of it; all others are shared.
-    /// It is refused with `PastEnd` where the range ends after the last page, with `TooManyRanges` where the new
-    /// view has more than 4096 maximal runs of a permission other than none, and with `Memory` where a growth was
-    /// refused. An empty range gives the same tree.
+    /// Only blocks that an end of the range cuts are new, at most 44 for each end; all others are shared. Fails with
+    /// `PastEnd` if the range ends after the last page, with `TooManyRanges` if the new view has more than 4096 maximal
+    /// runs of a permission other than none, and with `Memory` if an allocation fails. An empty range gives the same
+    /// tree.
     pub fn with_range(&self, first: u64, count: u64, perm: Perm) -> Result<Tree, MapFault>
         ensures means { IfOk result (λ t. TreeMeans (overwritten
             (view_of_tree self.now) first count perm) t) }
@@ -105,7 +105,7 @@ impl Tree {
         })
     }
 
-    /// The number of split blocks, one less than that of the blocks of one permission. It is kept, not counted.
+    /// Returns the number of split blocks, one less than the number of uniform blocks. It is stored, not counted.
     #[tactic(auto, using(crate::proofs::Edges::splits_most, crate::proofs::Edges::leaves_splits))]
     pub fn branches(&self) -> usize
         ensures value { result ≡ splits self.now }

@@ -1,8 +1,8 @@
--- The name of a new file beside the place that it will be moved to.
+-- Names of the temporary file beside a place.
 use Rattle.std.specs.Prelude.{ℕ, ◌+◌, ◌<◌, List, ◌≡◌, ◌++◌, codes, encode_utf8}
 use Rattle.std.specs.Path.{path_with_file_name}
 
--- the name of a place and `.part`
+-- the name of a place with `.part`
 abbrev pub part_name : List ℕ → List ℕ
 part_name place = place ++ codes ".part"
 
@@ -10,7 +10,7 @@ part_name place = place ++ codes ".part"
 abbrev pub short_part_name : List ℕ → List ℕ
 short_part_name place = path_with_file_name place (codes "pmpmon.part")
 
--- a name with one digit after it
+-- a name followed by one digit
 abbrev pub IsNumbered : List ℕ → List ℕ → Type 0
 IsNumbered name numbered = (digit : ℕ) × (digit < 10)
     × (numbered ≡ name ++ encode_utf8 (48 + digit))

@@ -1,4 +1,4 @@
--- The trouble that a fault is, and the status that the program ends with.
+-- The failure for each fault, and its exit status.
 use Rattle.std.specs.Prelude.{ℕ, List, Result, Ok, Err}
 use Rattle.std.specs.Borrow.{Bor}
 use Rattle.text_lines.specs.declared.fault.RunFault.{RunFault}
@@ -30,19 +30,19 @@ trouble_status (CannotWrite file) = 3
 trouble_status Output = 3
 trouble_status Memory = 4
 
--- a fault of reading a file to its end
+-- the failure for a fault of reading a file to its end
 abbrev pub source_trouble : Bor (List ℕ) → SourceFault → Trouble
 source_trouble file whole.TooLarge = TooLarge file
 source_trouble file whole.Read = CannotRead file
 source_trouble file whole.Memory = Memory
 
--- a fault of a map file
+-- the failure for a fault of a map file
 abbrev pub map_trouble : Bor (List ℕ) → MapFileFault → Trouble
 map_trouble file (maps.Line n) = NotUnderstood file n
 map_trouble file maps.TooManyRanges = TooManyRanges file
 map_trouble file maps.Memory = Memory
 
--- a fault of a run over a trace
+-- the failure for a fault of running a trace
 abbrev pub run_trouble : Bor (List ℕ) → RunFault → Trouble
 run_trouble file (runs.Line n) = NotUnderstood file n
 run_trouble file runs.TooLong = TooLarge file
@@ -50,7 +50,7 @@ run_trouble file runs.Read = CannotRead file
 run_trouble file runs.Write = Output
 run_trouble file runs.Memory = Memory
 
--- the status of a task
+-- the exit status of a task
 abbrev pub status_of : Result ℕ Trouble → ℕ
 status_of (Ok status) = status
 status_of (Err trouble) = trouble_status trouble

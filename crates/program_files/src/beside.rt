@@ -1,4 +1,4 @@
-//! The place of a certificate, and the files beside it.
+//! The place of a certificate, and the temporary files beside it.
 
 ghost use Rattle.std.specs.Fs.{new_options, with_truncate, with_write};
 ghost use Rattle.std.specs.Path.{path_buf_bytes};
@@ -12,7 +12,7 @@ use std::path::{Path, PathBuf};
 use std::rt::Files;
 use std::{fs, io};
 
-/// What a link of that name leads to; nothing where it is no link, or that cannot be read.
+/// Returns the final target of a symbolic link, or `None` if the name is not a link or cannot be read.
 pub(crate) fn led_to<R: Files>(files: &R, alloc: Global, name: &str) -> Option<PathBuf> {
     let stands = fs::symlink_metadata(files, name).ok()?;
     if !stands.is_symlink() {
@@ -24,10 +24,10 @@ pub(crate) fn led_to<R: Files>(files: &R, alloc: Global, name: &str) -> Option<P
     end_of(files, alloc, name)
 }
 
-/// How many links are followed, as Linux does.
+/// Maximum number of links to follow, as on Linux.
 const MOST_LINKS: u8 = 40;
 
-/// What a link leads to at its end, where nothing need be; nothing where it does not end, or cannot be read.
+/// Follows links to the last target, which need not exist. Returns `None` if the links do not end or cannot be read.
 fn end_of<R: Files>(files: &R, alloc: Global, name: &str) -> Option<PathBuf> {
     let mut place = PathBuf::from_str(alloc, name).ok()?;
     for _ in 0..MOST_LINKS {
@@ -40,7 +40,7 @@ fn end_of<R: Files>(files: &R, alloc: Global, name: &str) -> Option<PathBuf> {
     None
 }
 
-/// Whether that kind of failure says of a folder that no file can be made in it.
+/// Returns whether this error means that no file can be created in a folder.
 pub(crate) fn takes_no_file(kind: ErrorKind) -> bool
     ensures { (result ≡ true) ↔ ((kind ≡ ErrorKind.PermissionDenied)
         ⊎ (kind ≡ ErrorKind.ReadOnlyFilesystem)) }
@@ -51,14 +51,14 @@ pub(crate) fn takes_no_file(kind: ErrorKind) -> bool
     )
 }
 
-/// Lets a new file be read and written by whom the old one may; where that fails, it is as any new file.
+/// Gives a new file the permissions of the old one. If that fails, the new file keeps the default permissions.
 pub(crate) fn permit<F: OpenFile>(file: &F, old: Option<Metadata>) {
     if let Some(old) = old {
         let _ = file.set_permissions(old.permissions());
     }
 }
 
-/// To write to what is at a place, which is emptied first. Nothing is made.
+/// Options to truncate and write an existing file, without creating one.
 fn emptying_options() -> OpenOptions
     ensures { result ≡ with_truncate (with_write new_options true) true }
 {
@@ -67,12 +67,12 @@ fn emptying_options() -> OpenOptions
     options
 }
 
-/// What is there, to be written from its beginning on.
+/// Opens an existing file to overwrite it from its beginning.
 pub(crate) fn straight<R: Files>(files: &R, place: &str) -> io::Result<R::File> {
     emptying_options().open(files, place)
 }
 
-/// The place of a file of that name: what it leads to, and otherwise the name itself.
+/// Returns the place of a file with this name: the target of its link, otherwise the name itself.
 pub(crate) fn place_of(
     alloc: Global,
     name: &str,
@@ -88,7 +88,7 @@ pub(crate) fn place_of(
     }
 }
 
-/// The name beside a place, with room for a digit after it.
+/// Returns the name of the temporary file beside a place, with room for a digit.
 pub(crate) fn beside_of(alloc: Global, place: &str) -> Result<String, AllocError>
     ensures { IfOk result (λ name. string_bytes name ≡ part_name place.now) }
 {
@@ -98,7 +98,7 @@ pub(crate) fn beside_of(alloc: Global, place: &str) -> Result<String, AllocError
     Ok(name)
 }
 
-/// A short name in the folder of a place, with room for a digit after it.
+/// Returns a short name in the folder of a place, with room for a digit.
 pub(crate) fn short_beside_of(alloc: Global, place: &str) -> Result<String, AllocError>
     ensures { IfOk result (λ name. string_bytes name ≡ short_part_name place.now) }
 {
@@ -108,7 +108,7 @@ pub(crate) fn short_beside_of(alloc: Global, place: &str) -> Result<String, Allo
     Ok(name)
 }
 
-/// A new file under a name with a digit after it, the first that is free.
+/// Creates a file under the name with the first digit that gives an unused name.
 pub(crate) fn new_file<R: Files>(files: &R, name: &mut String) -> io::Result<R::File>
     ensures made { IfOk result (λ _. IsNumbered (string_bytes name.old) (string_bytes name.new)) }
     ensures stays { IfErr result (λ _. string_bytes name.new ≡ string_bytes name.old) }

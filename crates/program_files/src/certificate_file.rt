@@ -1,4 +1,4 @@
-//! The file that a certificate is written to.
+//! The file of a certificate.
 
 ghost use Rattle.std.specs.Prelude.{◌≡◌, None, refl, true, string_bytes, IfOk};
 ghost use Rattle.program_files.specs.Beside.{part_name, short_part_name};
@@ -10,7 +10,7 @@ use std::alloc::{AllocError, Global};
 use std::rt::Files;
 use text_lines::{DeviceFault, Sink};
 
-/// A file that appears whole or not at all: its bytes are written beside it and moved into its place at the end; where
+/// A file that appears whole or not at all: its bytes are written beside it and moved into its place at the end; if
 /// that fails they are removed.
 #[derive(Drop)]
 pub struct CertificateFile<R: Files> {
@@ -18,7 +18,7 @@ pub struct CertificateFile<R: Files> {
 }
 
 impl<R: Files + Drop> CertificateFile<R> {
-    /// The file of that name, which may be there or not. Nothing is made before the first write.
+    /// Returns the file with this name, which need not exist. Nothing is created before the first write.
     pub fn new(files: R, alloc: Global, name: &str) -> Result<CertificateFile<R>, AllocError>
         ensures failures { IfOk result (λ file. file.part.failures ≡ 0) }
         ensures beside { IfOk result (λ file.
@@ -32,7 +32,7 @@ impl<R: Files + Drop> CertificateFile<R> {
 }
 
 impl<R: Files> CertificateFile<R> {
-    /// Why its last failure came, where one did.
+    /// Returns the reason of its last failure, if it has failed.
     pub fn reason(&self) -> Option<Reason> {
         self.part.reason()
     }
@@ -50,7 +50,7 @@ impl<R: Files> Sink for CertificateFile<R> {
     }
 }
 
-/// What a file contains is not known.
+/// The contents of a file are unknown.
 impl<R: Files> WholeSink for CertificateFile<R> {
     type Inner = PartFile<R>;
 

@@ -18,7 +18,7 @@ pub struct FileToRead<'a, R: Files> {
 }
 
 impl<'a, R: Files> FileToRead<'a, R> {
-    /// The file of that name, which may not be there.
+    /// Returns the file with this name, which need not exist.
     pub fn new(files: &'a R, name: &'a str) -> FileToRead<'a, R>
         ensures name { result.name ≡ name.entry }
         ensures closed { result.file ≡ None }
@@ -32,10 +32,10 @@ impl<'a, R: Files> FileToRead<'a, R> {
 }
 
 impl<R: Files> Read for FileToRead<'_, R> {
-    // What the opened file says of its bytes; nothing is known of them before its first read.
+    // The remaining bytes of the opened file, which are unknown before its first read.
     ghost remaining = { λ r. option_and_then R.File.remaining r.file };
 
-    // A file that could not be opened is no file without bytes: where a read is done, a file is open.
+    // A file that could not be opened differs from an empty one: after a successful read, a file is open.
     fn read(&mut self, buf: &mut [u8]) -> io::Result<usize>
         ensures bound { ReadsAtMost result buf.new }
         ensures bytes { ReadConsumes (option_and_then R.File.remaining self.old.file)
@@ -53,7 +53,7 @@ impl<R: Files> Read for FileToRead<'_, R> {
     }
 }
 
-/// What a task reads: a file, or standard input.
+/// The input of a task: a file, or standard input.
 #[derive(Drop)]
 pub enum InputToRead<'a, R: Files, S> {
     /// A file that is opened at its first read.
@@ -63,14 +63,14 @@ pub enum InputToRead<'a, R: Files, S> {
 }
 
 impl<'a, R: Files, S> InputToRead<'a, R, S> {
-    /// The file of that name, which is opened at its first read.
+    /// Returns the file with this name, which is opened at its first read.
     pub fn of_file(files: &'a R, name: &'a str) -> InputToRead<'a, R, S>
         ensures { IsOfFile name.entry result }
     {
         InputToRead::File(FileToRead::new(files, name))
     }
 
-    /// A stream, whose interrupted calls are tried again.
+    /// Wraps a stream, whose interrupted calls are retried.
     pub fn of_stream(stream: S) -> InputToRead<'a, R, S>
         ensures { IsOfStream stream result }
     {
@@ -79,7 +79,7 @@ impl<'a, R: Files, S> InputToRead<'a, R, S> {
 }
 
 impl<R: Files, S: Read> Read for InputToRead<'_, R, S> {
-    // What the file or the stream says of its bytes.
+    // The remaining bytes of the file or the stream.
     ghost remaining = { remaining_of R.File.remaining S.remaining };
 
     fn read(&mut self, buf: &mut [u8]) -> io::Result<usize>
@@ -95,14 +95,14 @@ impl<R: Files, S: Read> Read for InputToRead<'_, R, S> {
     }
 }
 
-/// A reader or writer whose calls are tried again where a signal interrupted them.
+/// A reader or writer that retries calls that a signal interrupted.
 #[derive(Drop)]
 pub struct RetryInterrupted<T> {
     inner: T,
 }
 
 impl<T> RetryInterrupted<T> {
-    /// The reader or writer, whose interrupted calls are tried again.
+    /// Wraps a reader or writer.
     pub fn new(inner: T) -> RetryInterrupted<T>
         ensures { result.inner ≡ inner }
     {
@@ -130,7 +130,7 @@ impl<T: Write> Write for RetryInterrupted<T> {
     }
 }
 
-/// A read that is tried again where a signal interrupted it.
+/// Reads, retrying if a signal interrupts the call.
 fn read_again<T: Read>(reader: &mut T, buf: &mut [u8]) -> io::Result<usize>
     ensures most { ReadsAtMost result buf.new }
     ensures bytes { ReadConsumes (T.remaining reader.old) (T.remaining reader.new) result buf.new }
@@ -144,7 +144,7 @@ fn read_again<T: Read>(reader: &mut T, buf: &mut [u8]) -> io::Result<usize>
     Err(io::Error::from(ErrorKind::Interrupted))
 }
 
-/// A write that is tried again where a signal interrupted it.
+/// Writes, retrying if a signal interrupts the call.
 pub fn write_again<T: Write>(writer: &mut T, buf: &[u8]) -> io::Result<usize>
     ensures most { WritesAtMost result buf.now }
     ensures bytes { WriteAppends (T.contents writer.old) (T.contents writer.new) result buf.now }

@@ -1,4 +1,4 @@
-//! The files that a task reads whole: bytes and maps.
+//! The files that a task reads whole: raw bytes and maps.
 
 ghost use Rattle.std.specs.Prelude.{◌≡◌, ◌-◌, ◌^◌, ◌<◌, IfErr, IfOk, length};
 ghost use Rattle.program_files.specs.Reading.{reading, HasBytes, HasMap, HasNoBytes, HasNoMap, IsMapFault};
@@ -13,13 +13,13 @@ use permission_map::PermissionMap;
 use std::alloc::Global;
 use text_lines::Source;
 
-/// How many bytes a listing of registers may have.
+/// Maximum size of a register listing in bytes.
 pub const REGISTER_BYTES: usize = 1 << 20;
 
-/// How many bytes a certificate may have.
+/// Maximum size of a certificate in bytes.
 pub const CERTIFICATE_BYTES: usize = 1 << 26;
 
-/// The bytes of a file that may have at most `most`.
+/// Returns the bytes of a file, which may have at most `most`.
 #[tactic(auto, using(crate::proofs::Refusals::no_bytes))]
 pub fn bytes_in<'a, R: Source>(
     alloc: Global,
@@ -39,7 +39,7 @@ pub fn bytes_in<'a, R: Source>(
     }
 }
 
-/// The map that the bytes of a map file make.
+/// Parses the bytes of a map file.
 pub fn map_by<'a>(alloc: Global, file: &'a str, bytes: &[u8]) -> Result<PermissionMap, Trouble<'a>>
     requires { length bytes.now < 2 ^ 64 - 1 }
     ensures made { IfOk result (Makes bytes.now) }
@@ -52,7 +52,7 @@ pub fn map_by<'a>(alloc: Global, file: &'a str, bytes: &[u8]) -> Result<Permissi
     }
 }
 
-/// The map of a map file.
+/// Reads and parses a map file.
 pub fn map_in<'a, R: Source>(
     alloc: Global,
     file: &'a str,

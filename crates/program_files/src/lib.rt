@@ -1,12 +1,13 @@
-//! The program's files: read whole or from their first read on, written so that they appear whole or not at all, and the trouble
-//! that comes of them.
+//! Reads the program's files whole or on demand, writes certificates atomically, and reports failures with a
+//! message and an exit status.
 //!
-//! For the layer above: [`bytes_in`] reads a file to its end, up to a bound, and [`map_in`] one that should be a map; each says why it
-//! could not, as a [`Trouble`], which prints its one line and has the program's status. [`read_whole`] answers the bytes of a source of
-//! bounded length, and [`has_more`] whether it is longer; a [`FileToRead`] is opened at its first read, and an [`InputToRead`] is one or
-//! standard input; a [`CertificateFile`] is a [`WholeSink`], whose bytes appear in their place all at once: it lends what takes them,
-//! a [`PartFile`], and not the place. A call that a signal interrupted is tried again ([`RetryInterrupted`]). Names are printed
-//! without control characters ([`shown`], and [`write_shown`] without memory).
+//! For the layer above: [`bytes_in`] reads a file to its end, up to a bound, and [`map_in`] reads a map file; each
+//! returns a failure as a [`Trouble`], which prints its one line and has the program's exit status. [`read_whole`]
+//! returns the bytes of a source of bounded length, and [`has_more`] whether it is longer. A [`FileToRead`] is opened
+//! at its first read, and an [`InputToRead`] is such a file or standard input. A [`CertificateFile`] is a
+//! [`WholeSink`], whose bytes appear in their place all at once: it lends its [`PartFile`], which takes the bytes, but
+//! not the place. A call that a signal interrupted is retried ([`RetryInterrupted`]). Names are printed without control
+//! characters ([`shown`], and [`write_shown`] without allocating).
 //!
 //! ```rust
 //! let map = map_in(rt.alloc(), "map.txt", &mut source)?;

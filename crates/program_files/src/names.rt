@@ -1,4 +1,4 @@
-//! Names as messages show them: without control characters.
+//! Prints names without control characters.
 
 ghost use Rattle.std.specs.Prelude.{◌<◌, length};
 
@@ -6,12 +6,12 @@ use std::alloc::{AllocError, Global};
 use std::str::from_utf8;
 use text_lines::{Counted, DeviceFault, Line, Sink, push_hex, push_text, write_whole};
 
-/// Whether two bytes are a control character beyond ASCII.
+/// Returns whether two bytes are the UTF-8 encoding of a control character beyond ASCII.
 fn is_control_pair(byte: u8, next: u8) -> bool {
     byte == 0xC2 && (next >= 0x80 && next <= 0x9F)
 }
 
-/// Whether the byte at a place is a control character, or one of the two bytes of one.
+/// Returns whether the byte at an index is a control character or part of one.
 fn is_hidden(name: &[u8], i: usize) -> bool
     requires { i < length name.now }
 {
@@ -29,7 +29,7 @@ fn write_escaped<E: Sink>(err: &mut E, byte: u8) -> Result<(), DeviceFault> {
     write_whole(err, line.as_slice())
 }
 
-/// Whether a name has no control character.
+/// Returns whether a name has no control characters.
 fn is_plain(name: &[u8]) -> bool {
     for i in 0..name.len() {
         if is_hidden(name, i) {
@@ -39,8 +39,8 @@ fn is_plain(name: &[u8]) -> bool {
     true
 }
 
-/// Writes a name as it is shown: at once where it has no control character, and otherwise byte by byte, each of a control
-/// character as `\x` and its two hexadecimal digits. It takes no memory.
+/// Writes a name, in one piece if it has no control characters. Otherwise writes it byte by byte, with `\x` and two
+/// hexadecimal digits for each byte of a control character. Does not allocate.
 pub fn write_shown<E: Sink>(err: &mut E, name: &[u8]) -> Result<(), DeviceFault> {
     if is_plain(name) {
         return write_whole(err, name);
@@ -55,7 +55,7 @@ pub fn write_shown<E: Sink>(err: &mut E, name: &[u8]) -> Result<(), DeviceFault>
     Ok(())
 }
 
-/// Writes a text, a name as it is shown, and texts one after another.
+/// Writes a text, a name without control characters, and further texts.
 pub fn write_named<E: Sink>(
     err: &mut E,
     before: &str,
@@ -70,7 +70,7 @@ pub fn write_named<E: Sink>(
     Ok(())
 }
 
-/// A name as it is shown.
+/// Returns a name without control characters.
 pub fn shown(alloc: Global, name: &[u8]) -> Result<Vec<u8>, AllocError> {
     let mut held = Counted::new(Vec::new(alloc));
     match write_shown(&mut held, name) {
@@ -79,7 +79,7 @@ pub fn shown(alloc: Global, name: &[u8]) -> Result<Vec<u8>, AllocError> {
     }
 }
 
-/// A word's bytes, each that is no visible character of ASCII as `\x` and its two hexadecimal digits.
+/// Returns the bytes of a word, with `\x` and two hexadecimal digits for each byte that is not printable ASCII.
 pub fn quoted(alloc: Global, word: &[u8]) -> Result<Vec<u8>, AllocError> {
     let mut held = Counted::new(Vec::new(alloc));
     for byte in word {
@@ -95,7 +95,7 @@ pub fn quoted(alloc: Global, word: &[u8]) -> Result<Vec<u8>, AllocError> {
     Ok(held.into_inner())
 }
 
-/// The text of bytes, where they are one.
+/// Returns the bytes as text, or an empty text if they are not UTF-8.
 pub fn text_of(bytes: &[u8]) -> &str {
     from_utf8(bytes).unwrap_or("")
 }

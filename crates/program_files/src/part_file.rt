@@ -18,9 +18,9 @@ use std::rt::Files;
 use std::{fs, io, mem};
 use text_lines::{DeviceFault, Sink};
 
-/// A file that is written beside its place, under its name and `.part` with a digit, or under a short name where that is too
-/// long. What is no plain file, as a device or a pipe, is written straight through; so is a file in a folder that takes no new
-/// one.
+/// A file that is written beside its place, under its name with `.part` and a digit, or under a short name if that is
+/// too long. Anything other than a plain file, such as a device or a pipe, is written directly, as is a file in a
+/// folder where no file can be created.
 #[derive(Drop)]
 pub struct PartFile<R: Files> {
     files: R,
@@ -36,7 +36,7 @@ pub struct PartFile<R: Files> {
 }
 
 impl<R: Files + Drop> PartFile<R> {
-    /// The file of that name, which may be there or not. Nothing is made before the first write.
+    /// Returns the file with this name, which need not exist. Nothing is created before the first write.
     pub(crate) fn new(files: R, alloc: Global, name: &str) -> Result<PartFile<R>, AllocError>
         ensures failures { IfOk result (λ file. file.failures ≡ 0) }
         ensures beside { IfOk result (λ file.
@@ -63,13 +63,13 @@ impl<R: Files + Drop> PartFile<R> {
 }
 
 impl<R: Files> PartFile<R> {
-    /// Why its last failure came, where one did.
+    /// Returns the reason of its last failure, if it has failed.
     pub fn reason(&self) -> Option<Reason> {
         self.reason
     }
 
-    /// Opens what is written to: a new file beside the place; or what is there, if it is no plain file or its folder takes
-    /// no new one.
+    /// Opens a new file beside the place; or the existing file, if it is not a plain file or no file can be created in
+    /// its folder.
     fn open(&mut self) -> io::Result<()>
         ensures place { self.new.place ≡ self.old.place }
         ensures opened { IfOk result (λ _. self.new.file ≢ None) }
@@ -94,7 +94,7 @@ impl<R: Files> PartFile<R> {
         self.open_plain(stands)
     }
 
-    /// The same where what is at the place, if anything, is a plain file.
+    /// Opens the file if the place is empty or has a plain file.
     fn open_plain(&mut self, stands: Option<Metadata>) -> io::Result<()>
         ensures place { self.new.place ≡ self.old.place }
         ensures opened { IfOk result (λ _. self.new.file ≢ None) }
@@ -124,7 +124,7 @@ impl<R: Files> PartFile<R> {
         }
     }
 
-    /// A new file beside the place, under a short name where its own is too long.
+    /// Creates a file beside the place, under a short name if its own is too long.
     fn new_beside(&mut self) -> io::Result<R::File>
         ensures place { self.new.place ≡ self.old.place }
         ensures made { IfOk result (λ _.
@@ -159,7 +159,7 @@ impl<R: Files> PartFile<R> {
         }
     }
 
-    /// Moves what was written beside the place into it, where that is so.
+    /// Moves the bytes written beside the place into it, if there are any.
     fn move_in(&mut self) -> io::Result<()>
         ensures place { self.new.place ≡ self.old.place }
         ensures moved { IfOk result (λ _. self.new.is_beside ≡ false) }
@@ -180,7 +180,7 @@ impl<R: Files> PartFile<R> {
         Ok(())
     }
 
-    /// Removes what was written beside the place.
+    /// Removes the file beside the place.
     fn discard(&mut self)
         ensures place { self.new.place ≡ self.old.place }
         ensures removed { self.new.is_beside ≡ false }
@@ -195,7 +195,7 @@ impl<R: Files> PartFile<R> {
     }
 }
 
-/// Why a write took nothing.
+/// Returns the reason why a write accepted no bytes.
 fn why(written: io::Result<usize>) -> Reason {
     match written {
         Ok(_) => Reason::NoSpace,
@@ -204,7 +204,7 @@ fn why(written: io::Result<usize>) -> Reason {
 }
 
 impl<R: Files> PartFile<R> {
-    /// Keeps why a write failed, and removes what was written beside the place.
+    /// Records the reason of a failure, and removes the file beside the place.
     #[tactic(auto, unfolding(text_lines::specs::Streams::GrowsByOne))]
     fn fail(&mut self, reason: Reason) -> DeviceFault
         ensures removed { self.new.is_beside ≡ false }
@@ -217,7 +217,7 @@ impl<R: Files> PartFile<R> {
         DeviceFault
     }
 
-    /// Puts what was written in its place.
+    /// Puts the written bytes in their place.
     pub(crate) fn put_in_place(&mut self) -> Result<(), DeviceFault>
         ensures failures { CountsFailure result self.old.failures self.new.failures }
         ensures stalls { self.new.stalls ≡ self.old.stalls }

@@ -1,4 +1,4 @@
-//! Why a file could not be read or made, as the system says it.
+//! Reasons for failures of the file system.
 
 ghost use Rattle.std.specs.Prelude.{◌≡◌};
 ghost use Rattle.std.specs.Io.{ReadsAtMost, WritesAtMost};
@@ -7,41 +7,41 @@ ghost use Rattle.std.specs.Io.KnownBytes.{Keeps, ReadConsumes, WriteAppends};
 use std::io;
 use std::io::{ErrorKind, Read, Write};
 
-/// Why a file could not be read or made.
+/// The reason why a file could not be read or created.
 #[derive(Clone, Copy)]
 pub enum Reason {
-    /// There is no file of that name, or no folder that it names.
+    /// The file does not exist, or a folder in its name does not.
     NoSuchFile,
-    /// It is a folder.
+    /// The file is a folder.
     Folder,
-    /// What should be a folder on its path is not.
+    /// A part of the path that should be a folder is not one.
     NoFolder,
-    /// The user may not.
+    /// The user lacks permission.
     NoPermission,
-    /// The file system takes no writes.
+    /// The file system is read-only.
     ReadOnly,
     /// The file system is full.
     NoSpace,
-    /// The user may have no more.
+    /// The user's quota is exhausted.
     Quota,
     /// The file would be too large.
     TooLarge,
     /// The name is too long.
     LongName,
-    /// Links lead round in a ring, or on and on.
+    /// There are too many symbolic links, or they form a cycle.
     ManyLinks,
-    /// Each name beside the place is taken.
+    /// All names beside the place are in use.
     PartsTaken,
-    /// The reader has gone.
+    /// The reader has closed the stream.
     Closed,
-    /// Memory was refused.
+    /// An allocation failed.
     Memory,
-    /// Another.
+    /// Any other reason.
     Other,
 }
 
 impl Reason {
-    /// The reason of an error.
+    /// Returns the reason of an error.
     pub fn of(error: &io::Error) -> Reason {
         match error.kind() {
             ErrorKind::NotFound => Reason::NoSuchFile,
@@ -61,7 +61,7 @@ impl Reason {
         }
     }
 
-    /// What is said of it.
+    /// Returns the message for the reason.
     pub fn text(self) -> &'static str {
         match self {
             Reason::NoSuchFile => "no such file or folder",
@@ -82,7 +82,7 @@ impl Reason {
     }
 }
 
-/// A reader or writer that keeps why its last failure came.
+/// A reader or writer that records the reason of its last failure.
 #[derive(Drop)]
 pub struct Explained<T> {
     inner: T,
@@ -90,7 +90,7 @@ pub struct Explained<T> {
 }
 
 impl<T> Explained<T> {
-    /// The reader or writer, which has not failed yet.
+    /// Wraps a reader or writer, which has not failed yet.
     pub fn new(inner: T) -> Explained<T>
         ensures { result.inner ≡ inner }
     {
@@ -100,7 +100,7 @@ impl<T> Explained<T> {
         }
     }
 
-    /// Why its last failure came, where one did.
+    /// Returns the reason of its last failure, if it has failed.
     pub fn reason(&self) -> Option<Reason> {
         self.reason
     }

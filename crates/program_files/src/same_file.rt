@@ -1,4 +1,4 @@
-//! Whether two names are of one file.
+//! Identity of files with different names.
 
 ghost use Rattle.std.specs.Prelude.{◌≡◌, ◌↔◌, IsTrue};
 
@@ -7,7 +7,7 @@ use std::fs::Metadata;
 use std::os::unix::fs::MetadataExt;
 use std::rt::Files;
 
-/// Whether two names are of one file, which is there: by its device and its number there.
+/// Returns whether two names refer to one existing file, by its device and inode number.
 pub fn is_same_file<R: Files>(files: &R, one: &str, other: &str) -> bool {
     match (fs::metadata(files, one), fs::metadata(files, other)) {
         (Ok(one), Ok(other)) => are_same(&one, &other),
@@ -15,7 +15,8 @@ pub fn is_same_file<R: Files>(files: &R, one: &str, other: &str) -> bool {
     }
 }
 
-/// Whether two names are of one plain file, which is there. A device or a pipe of two names loses nothing.
+/// Returns whether two names refer to one existing plain file. Devices and pipes do not count, because nothing is lost
+/// if they have two names.
 pub fn is_same_plain_file<R: Files>(files: &R, one: &str, other: &str) -> bool {
     match (fs::metadata(files, one), fs::metadata(files, other)) {
         (Ok(one), Ok(other)) => one.is_file() && are_same(&one, &other),
@@ -23,12 +24,12 @@ pub fn is_same_plain_file<R: Files>(files: &R, one: &str, other: &str) -> bool {
     }
 }
 
-/// Whether two files are one: both are of one device, and have one number there.
+/// Returns whether two files are the same, by device and inode number.
 fn are_same(one: &Metadata, other: &Metadata) -> bool {
     is_one((one.dev(), one.ino()), (other.dev(), other.ino()))
 }
 
-/// Whether two devices and numbers on them are of one file.
+/// Returns whether two pairs of device and inode number are equal.
 fn is_one(one: (u64, u64), other: (u64, u64)) -> bool
     ensures { IsTrue result ↔ (one ≡ other) }
 {

@@ -1,4 +1,4 @@
-//! Why a task did not end well: the text for standard error, and the program's status.
+//! Failures of a task: the text for standard error, and the program's exit status.
 
 ghost use Rattle.std.specs.Prelude.{◌≡◌};
 ghost use Rattle.program_files.specs.Troubles.{map_trouble, run_trouble, trouble_status, source_trouble};
@@ -9,10 +9,10 @@ use map_text::MapFileFault;
 use std::alloc::AllocError;
 use text_lines::{DeviceFault, Line, RunFault, Sink, SourceFault, write_whole};
 
-/// Why a task did not end well. Files have the names that were given; they are shown without control characters.
+/// The failure of a task. Files have the names that the user gave; they are printed without control characters.
 #[derive(Drop)]
 pub enum Trouble<'a> {
-    /// A line of the file, counted from 1, is not understood.
+    /// A line of the file, counted from 1, is invalid.
     NotUnderstood {
         /// The map or the trace.
         file: &'a str,
@@ -24,36 +24,36 @@ pub enum Trouble<'a> {
         /// The map.
         file: &'a str,
     },
-    /// The file has more bytes than are allowed.
+    /// The file is larger than allowed.
     TooLarge {
         /// The platform, the map, the trace or the certificate.
         file: &'a str,
     },
-    /// The file is no platform.
+    /// The file is not a platform.
     NotAPlatform {
         /// The platform file.
         file: &'a str,
     },
-    /// No map or platform of a board can be made of the file.
+    /// The file gives no map or platform of a board.
     NoBoardText {
         /// The device tree.
         file: &'a str,
-        /// Why not.
+        /// The reason.
         said: Line,
     },
-    /// The file is a device tree, and what machine mode may do is asked of it.
+    /// The file is a device tree, but the task needs the permissions of machine mode.
     NoRegisters {
         /// The device tree.
         file: &'a str,
     },
-    /// The map has a byte beyond what the address registers of a hart reach.
+    /// The map has a byte beyond the reach of a hart's address registers.
     TooFar {
         /// The map.
         file: &'a str,
     },
     /// The map, or the host's view of a platform, needs more entries than a hart has.
     NeedsEntries {
-        /// How many it needs.
+        /// The number of entries that it needs.
         needed: u64,
     },
     /// The file could not be opened or read.
@@ -61,14 +61,14 @@ pub enum Trouble<'a> {
         /// The platform, the map, the trace or the certificate.
         file: &'a str,
     },
-    /// The file could not be made or written.
+    /// The file could not be created or written.
     CannotWrite {
         /// The certificate.
         file: &'a str,
     },
     /// Standard output could not be written.
     Output,
-    /// Memory was refused.
+    /// An allocation failed.
     Memory,
 }
 
@@ -83,7 +83,8 @@ impl From<AllocError> for Trouble<'_> {
     }
 }
 
-/// A device that failed is standard output: what reads and writes files has their names, and says their own troubles.
+/// A device fault without a file comes from standard output: functions that read and write files report their own
+/// failures, with the name.
 impl From<DeviceFault> for Trouble<'_> {
     ghost use Rattle.std.specs.Prelude.{◌≡◌};
     ghost use Rattle.program_files.specs.declared.trouble.Trouble.TheVariants.{Output};
@@ -96,7 +97,7 @@ impl From<DeviceFault> for Trouble<'_> {
 }
 
 impl<'a> Trouble<'a> {
-    /// What a fault of reading a file to its end is for the program.
+    /// Converts a fault of reading a file to its end.
     pub fn of_source(file: &'a str, fault: SourceFault) -> Trouble<'a>
         ensures { result ≡ source_trouble file.entry fault }
     {
@@ -107,7 +108,7 @@ impl<'a> Trouble<'a> {
         }
     }
 
-    /// What a fault of a map file is for the program.
+    /// Converts a fault of a map file.
     pub fn of_map(file: &'a str, fault: MapFileFault) -> Trouble<'a>
         ensures { result ≡ map_trouble file.entry fault }
     {
@@ -118,7 +119,7 @@ impl<'a> Trouble<'a> {
         }
     }
 
-    /// What a fault of a run over a trace is for the program.
+    /// Converts a fault of running a trace.
     pub fn of_run(file: &'a str, fault: RunFault) -> Trouble<'a>
         ensures { result ≡ run_trouble file.entry fault }
     {
@@ -131,7 +132,7 @@ impl<'a> Trouble<'a> {
         }
     }
 
-    /// The status that the program ends with: 2 for bad input, 3 for a device, 4 for memory.
+    /// Returns the program's exit status: 2 for bad input, 3 for a device, 4 for memory.
     pub fn status(&self) -> u8
         ensures { result ≡ trouble_status self.now }
     {
@@ -149,7 +150,7 @@ impl<'a> Trouble<'a> {
         }
     }
 
-    /// Writes the one line of text. It takes no memory.
+    /// Writes the one line of text. Does not allocate.
     pub fn print<E: Sink>(&self, err: &mut E) -> Result<(), DeviceFault> {
         let mut buffer = Buffer::new();
         match self {
@@ -183,7 +184,7 @@ impl<'a> Trouble<'a> {
     }
 }
 
-/// Writes what is said of a file.
+/// Writes a message about a file.
 fn about<E: Sink>(file: &str, said: &str, err: &mut E) -> Result<(), DeviceFault> {
     write_named(err, "pmpmon: ", file, &[said])
 }

@@ -1,4 +1,4 @@
-//! A file that is read whole before anything is made of it.
+//! Reads a file whole before it is used.
 
 ghost use Rattle.std.specs.Prelude.{◌≡◌, ◌≢◌, ℕ, ◌+◌, ◌-◌, ◌^◌, ◌<◌, ◌≤◌, ◌++◌, List, IfOk, OnOk, Ok, Err, true, false, length};
 ghost use Rattle.std.specs.Io.KnownBytes.{Consumes, IsAtEnd};
@@ -7,11 +7,11 @@ ghost use Rattle.text_lines.specs.Streams.{GrowsByOne, CountsFailure};
 use std::alloc::{AllocError, Global};
 use text_lines::{DeviceFault, Source, SourceFault};
 
-/// How many bytes are asked of a source at a time.
+/// Number of bytes to request from a source at a time.
 const PIECE: usize = 16384;
 
-/// Room for this many bytes is taken with the first: 128 KiB and more, which the C library gives back to the system when they are
-/// dropped. A smaller block would stay with the program, beside what is made of them.
+/// Capacity to allocate with the first byte: above 128 KiB, so that the C library returns the block to the system when
+/// it is dropped. A smaller block would stay in the process.
 const ROOM: usize = 128 * 1024 + 1;
 
 /// Appends a piece.
@@ -24,8 +24,8 @@ fn append(bytes: &mut Vec<u8>, piece: &[u8]) -> Result<(), AllocError>
     bytes.extend_from_slice(piece)
 }
 
-/// All the bytes of a source that has at most `most`. `Read` is answered only where the device failed in this call, and nothing
-/// else where it did; `Memory` only where some bytes came.
+/// Returns all bytes of a source, which may have at most `most`. Fails with `Read` iff the device failed in this call,
+/// and with `Memory` only if there were bytes.
 pub fn read_whole<R: Source>(
     alloc: Global,
     source: &mut R,
@@ -63,8 +63,8 @@ pub fn read_whole<R: Source>(
     Err(SourceFault::TooLarge)
 }
 
-/// Whether a source has more bytes than `most`. They are read and dropped: none takes memory. The source failed in this call where
-/// the device did, and only there.
+/// Returns whether a source has more than `most` bytes. They are read and dropped, without allocating. Fails iff the
+/// device failed in this call.
 pub fn has_more<R: Source>(source: &mut R, most: usize) -> Result<bool, DeviceFault>
     requires most { most < 2 ^ 32 }
     ensures more { result ≡ Ok true

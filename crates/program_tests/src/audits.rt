@@ -1,4 +1,4 @@
-//! Listings against a map: one that means it, and lines and devices that fail.
+//! Audits of listings against a map: a listing that means it, and lines and devices that fail.
 
 use map_text::map_of;
 use pmp_encoding::Xlen;
@@ -8,11 +8,11 @@ use std::alloc::Global;
 use std::process::Abort;
 use text_lines::fakes::PieceSink;
 
-/// One page that can be read.
+/// A map of one readable page.
 const PAGE: &[u8] = b"0 4096 r\n";
 
-/// That the audit of the listing against that page, on a device whose write of that number fails, ends so when it
-/// has written this.
+/// Asserts the result and the output of auditing the listing against that page, on a device whose write of number
+/// `failing` fails.
 fn expect_audit(
     rt: &impl Abort,
     alloc: Global,
@@ -40,7 +40,7 @@ fn expect_audit(
 #[test]
 fn a_page_that_is_meant_and_a_line_and_a_device_that_fail(rt: HostRuntime) {
     let page = b"pmpaddr0 0x400\npmpcfg0 9\n";
-    let text = b"means the map: 1 entry where 1 is enough\n";
+    let text = b"means the map: 1 entry; fewest NA4/NAPOT entries: 1\n";
     expect_audit(&rt, rt.alloc(), page, None, Ok(true), text);
     let unknown = b"pmpaddr0 1\nwhat\n";
     expect_audit(

@@ -1,4 +1,4 @@
-//! The command line: words that are a task, and words that are none and how they fail.
+//! The command line: words that form a task, and words that do not.
 
 mod faults;
 mod helps;

@@ -1,15 +1,15 @@
-//! Lines of traces, and the events that they are.
+//! Lines of traces, and their events.
 
 use hart_trace::{Event, parse_line};
 use pmp_match::{Kind, Mode};
 use std::process::Abort;
 
-/// What a line says.
+/// The content of a line.
 #[derive(Clone, Copy)]
 enum Said<'a> {
-    /// An access: the mode, the kind, the size, the address, and what is stored.
+    /// An access: the mode, the kind, the size, the address, and the value stored.
     Access(Mode, Kind, u8, u64, u64),
-    /// A register, and its value.
+    /// A register and its value.
     Register(u8, u64),
     /// A call with these words.
     Call(&'a [u64]),
@@ -17,10 +17,10 @@ enum Said<'a> {
     Nothing,
 }
 
-/// A line, how many harts there are, and what it says of the first; none where it is not understood.
+/// A line, the number of harts, and the expected event on hart 0, or `None` if the line is invalid.
 type Row<'a> = (&'a [u8], u8, Option<Said<'a>>);
 
-/// Whether an event is what a line says.
+/// Returns whether an event is the expected one.
 fn is(event: &Event, said: Said<'_>) -> bool {
     match (event, said) {
         (Event::Access(a, value), Said::Access(mode, kind, size, address, stored)) => {
@@ -33,7 +33,7 @@ fn is(event: &Event, said: Said<'_>) -> bool {
     }
 }
 
-/// Whether a line says that, with that many harts; none where it is not understood.
+/// Returns whether a line has this event with that many harts, or is invalid if `said` is `None`.
 fn says(line: &[u8], harts: u8, said: Option<Said<'_>>) -> bool {
     match (parse_line(line, harts), said) {
         (Ok(Some((hart, event))), Some(said)) => hart == 0 && is(&event, said),
@@ -82,7 +82,7 @@ const ROWS: &[Row<'static>] = &[
     (b"@: irq", 200, None),
 ];
 
-/// Each line, with its number of harts, says what is beside it.
+/// Asserts the event of each line.
 fn all_say(rt: &impl Abort, rows: &[Row<'_>]) {
     for (line, harts, said) in rows {
         assert!(rt; says(*line, *harts, *said), "{line:?}");

@@ -1,4 +1,4 @@
-//! Each read and each write fails in turn.
+//! Judges a trace while each read and each write fails in turn.
 
 use hart_trace::judge_trace;
 use pmp_encoding::{Bank, Limit};
@@ -10,7 +10,7 @@ const TRACE: &[u8] =
 
 const REPORT: &[u8] = b"1 fault 5\n2 fault 7\n3 fault 1\n";
 
-/// The lines that an LF ended in the first bytes of the report's trace have these answers.
+/// Returns the length of the answers to the lines of the trace that end with an LF in these first bytes.
 fn answers_before(trace: &[u8]) -> usize {
     let ended = trace.iter().filter(|b| **b == b'\n').count();
     match ended {

@@ -1,4 +1,4 @@
-//! Registers in each form: in pieces of any size, of entries below a page, and where writes fail.
+//! Registers in each output form: in pieces of any size, for entries below a page, and with failing writes.
 
 use map_table::{print_asm, print_c, print_json};
 use map_text::{print_plan, room_from};
@@ -10,7 +10,7 @@ use text_lines::fakes::PieceSink;
 /// A block: its base, the binary logarithm of its size, and its permission.
 pub(crate) type Block = (u64, u32, Perm);
 
-/// A form in which registers are printed.
+/// An output form of registers.
 #[derive(Clone, Copy)]
 enum Form {
     /// The text of `plan`.
@@ -20,14 +20,14 @@ enum Form {
     Json,
 }
 
-/// A device page, the firmware's 2 MiB in front of 128 MiB of memory.
+/// A device page, and 128 MiB of memory, of which the first 2 MiB are the firmware's.
 pub(crate) const BOARD: &[Block] = &[
     (0x1000_0000, 12, Perm::ReadWrite),
     (0x8000_0000, 21, Perm::NoAccess),
     (0x8000_0000, 27, Perm::ReadWriteExecute),
 ];
 
-/// The entries of these blocks.
+/// Returns the entries of these blocks.
 pub(crate) fn entries_of(rt: &impl Abort, alloc: Global, blocks: &[Block]) -> Vec<Entry> {
     let mut entries = Vec::new(alloc);
     for (base, log2, perm) in blocks {
@@ -38,7 +38,7 @@ pub(crate) fn entries_of(rt: &impl Abort, alloc: Global, blocks: &[Block]) -> Ve
     entries
 }
 
-/// The same, packed as a plan has them.
+/// Returns the packed entries of these blocks, as in a plan.
 fn packed_of(rt: &impl Abort, alloc: Global, blocks: &[Block]) -> Vec<PackedEntry> {
     let mut packed = Vec::new(alloc);
     for entry in entries_of(rt, alloc, blocks) {
@@ -47,8 +47,8 @@ fn packed_of(rt: &impl Abort, alloc: Global, blocks: &[Block]) -> Vec<PackedEntr
     packed
 }
 
-/// Whether all of the entries could be printed in that form, for sixteen of RV64, from the first on. The address registers have to
-/// reach them.
+/// Returns whether all of the entries could be printed in this form, for sixteen entries of RV64, from the first on.
+/// The address registers must reach them.
 fn prints(rt: &impl Abort, form: Form, entries: &[PackedEntry], sink: &mut PieceSink) -> bool {
     let (xlen, limit) = (Xlen::Rv64, Limit::Sixteen);
     assert!(rt; xlen.reaches(entries));
@@ -62,7 +62,7 @@ fn prints(rt: &impl Abort, form: Form, entries: &[PackedEntry], sink: &mut Piece
     }
 }
 
-/// That the board is printed in that form as one text, which begins so, whatever a write takes.
+/// Asserts that the board in this form is one text with this beginning, however few bytes each write accepts.
 fn expect_same(rt: &impl Abort, alloc: Global, form: Form, begin: &[u8]) {
     let entries = packed_of(rt, alloc, BOARD);
     let mut whole = PieceSink::new(8192, None);
@@ -90,7 +90,7 @@ pmpcfg2 0x0000000000000000
     expect_same(&rt, rt.alloc(), Form::Json, b"{\n  \"map\": \"a.map\",\n");
 }
 
-/// That these blocks as assembly end so.
+/// Asserts the end of these blocks in assembly.
 fn expect_end(rt: &impl Abort, alloc: Global, blocks: &[Block], end: &[u8]) {
     let entries = packed_of(rt, alloc, blocks);
     let mut sink = PieceSink::new(4096, None);
@@ -115,8 +115,8 @@ fn entries_below_a_page_have_their_sizes(rt: HostRuntime) {
     expect_end(&rt, rt.alloc(), &blocks, end);
 }
 
-/// That each of the first seven writes that fails ends the printing of the board, and that the printing ends too where a device
-/// takes nothing.
+/// Asserts that printing the board stops at the first of its writes that fails, for each of seven, and on a device that
+/// accepts nothing.
 fn expect_failures(rt: &impl Abort, alloc: Global, form: Form) {
     let entries = packed_of(rt, alloc, BOARD);
     for k in 1..8u64 {

@@ -1,8 +1,8 @@
-//! Tests of the program: the command line and its faults, the commands on files in memory and on failing devices, hints, and the texts
-//! that they read and print.
+//! Tests of the program: the command line and its errors, the commands on files in memory and on failing devices,
+//! hints, and the texts that they read and print.
 //!
-//! They are in a crate of their own so that the gate proves each tested crate once. What a command prints in full is in
-//! `tests/transcripts`.
+//! They are in a crate of their own so that the gate proves each tested crate only once. `tests/transcripts` contains
+//! the full output of commands.
 #![tactic(auto)]
 
 #[cfg(test)]

@@ -6,10 +6,10 @@ use std::process::Abort;
 use text_lines::fakes::PieceSource;
 use text_lines::{LineReader, ReadFault, Words};
 
-/// A reader of as little room as one may have: a line of 1023 bytes and its LF.
+/// A reader with the smallest allowed buffer: a line of 1023 bytes and its LF.
 type Reader = LineReader<1024>;
 
-/// The line has these words and no more, however often it is asked.
+/// Asserts that the line has exactly these words, even if more are requested.
 fn has_words(rt: &impl Abort, line: &[u8], wanted: &[&[u8]]) {
     let mut words = Words::of(line).ok().expect(rt, "allowed");
     for word in wanted {
@@ -38,10 +38,10 @@ fn hands_out(input: &[u8], piece: usize, wanted: &[&[u8]]) -> bool {
     reader.next_line(&mut source) == Ok(false)
 }
 
-/// An input, and the lines that it hands out.
+/// An input and its lines.
 type Lines<'a> = (&'a [u8], &'a [&'a [u8]]);
 
-/// Each input, in pieces of each of these sizes, hands out its lines.
+/// Asserts the lines of each input, read in pieces of each of these sizes.
 fn hand_out(rt: &impl Abort, pieces: &[usize], rows: &[Lines<'_>]) {
     for piece in pieces {
         for (row, (input, wanted)) in rows.iter().enumerate() {
@@ -77,7 +77,7 @@ fn one_carriage_return_at_the_end_of_a_line_is_dropped(rt: HostRuntime) {
     );
 }
 
-/// How many lines come before the reader's answer that there is no more, or its fault.
+/// Returns the number of lines before the reader reports the end or a fault, and that result.
 fn ends(source: &mut PieceSource<'_>) -> (u64, Result<bool, ReadFault>)
     requires { source.old.failures ≡ 0 }
 {
@@ -91,7 +91,7 @@ fn ends(source: &mut PieceSource<'_>) -> (u64, Result<bool, ReadFault>)
     (reader.number(), Ok(true))
 }
 
-/// The reader ends after that many lines with that answer, in pieces of a byte, of 1000, and of 4096.
+/// Asserts the number of lines and the final result of a reader, in pieces of 1, 1000 and 4096 bytes.
 fn ends_so(rt: &impl Abort, input: &[u8], lines: u64, answer: Result<bool, ReadFault>) {
     for piece in [1, 1000, 4096] {
         let mut source = PieceSource::new(input, piece, None);
@@ -111,7 +111,7 @@ fn a_line_has_at_most_1023_bytes(rt: HostRuntime) {
     ends_so(&rt, &input[..1024], 0, Err(ReadFault::LongLine(1)));
 }
 
-/// Where that read fails, the reader ends with that answer, after that many lines and that many reads.
+/// Asserts the number of lines, the final result and the number of reads if one read fails.
 fn ends_at(
     rt: &impl Abort,
     input: &[u8],
@@ -132,7 +132,7 @@ fn the_1024th_byte_is_answered_before_a_further_read(rt: HostRuntime) {
     ends_at(&rt, &input, 1, 1024, (0, Err(ReadFault::Device)), 1024);
 }
 
-/// The reader with a limit of five bytes hands out two lines, and then the sixth byte is too much.
+/// Asserts that a reader with a limit of five bytes returns two lines, and that the sixth byte is too many.
 fn is_too_much(rt: &impl Abort, piece: usize) {
     let mut source = PieceSource::new(b"a\nbc\nd", piece, None);
     let mut reader = Reader::with_limit(5);
@@ -144,7 +144,7 @@ fn is_too_much(rt: &impl Abort, piece: usize) {
     assert!(rt; source.rest().len() == 0);
 }
 
-/// Five bytes are not too much.
+/// Asserts that five bytes are within the limit.
 fn is_within(rt: &impl Abort) {
     let mut source = b"a\nbc\n".as_slice();
     let mut reader = Reader::with_limit(5);
@@ -167,7 +167,7 @@ fn lines_that_have_come_are_handed_out_before_a_further_read(rt: HostRuntime) {
     assert!(rt; source.rest().len() == 1);
 }
 
-/// The one-byte read of that number fails, and is reported after fewer lines than that.
+/// Asserts that the failing one-byte read is reported, after fewer lines than its number.
 fn is_told(rt: &impl Abort, failing: u64) {
     let mut source = PieceSource::new(b"a\n\nbc\n", 1, Some(failing));
     let (lines, end) = ends(&mut source);

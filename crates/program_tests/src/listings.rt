@@ -1,10 +1,12 @@
-//! Listings of registers, with values that no command shows: of entries that are off or locked, and of registers set twice.
+//! Listings of registers with values that no command shows: of entries that are off or locked, and of registers set
+//! twice.
 
 use pmp_encoding::Xlen;
 use register_audit::listing_of;
 use std::process::Abort;
 
-/// A listing of that width; its bytes and its addresses from some places on; and the first line that it passes over.
+/// The width of a listing, the listing, its configuration bytes and its addresses at some positions, and the first line
+/// that is ignored.
 type Row<'a> = (
     Xlen,
     &'a [u8],
@@ -30,7 +32,7 @@ const ROWS: &[Row<'static>] = &[
         &[(0, &[0x80_1fff, 32, 33, 34, 35, 0])],
         Some(1),
     ),
-    // by hand
+    // handwritten
     (
         Xlen::Rv64,
         b"# from the boot log\r\npmpcfg14 0x1122334455667788 # the last eight\n\npmpaddr63 7\npmpaddr0 1\npmpaddr0 2\n\tpmpcfg0 255\n2 24 0x10",
@@ -59,7 +61,7 @@ const ROWS: &[Row<'static>] = &[
     ),
 ];
 
-/// That the listing is understood as the row says, with an `mseccfg` of zero.
+/// Asserts that the listing is parsed as the row says, with an `mseccfg` of zero.
 fn is_read(rt: &impl Abort, row: &Row<'_>) {
     let (xlen, listing, cfgs, addresses, passed) = row;
     let listing = listing_of(*xlen, *listing).expect(rt, "understood");

@@ -1,11 +1,11 @@
-//! Texts, and the platforms that they are.
+//! Texts, and their platforms.
 
 use input_files::platform_of;
 use pmp_encoding::Limit;
 use std::alloc::Global;
 use std::process::Abort;
 
-/// That the text is a platform of that many harts and of that limit.
+/// Asserts that the text is a platform with that many harts and that limit.
 fn expect_platform(rt: &impl Abort, alloc: Global, text: &str, harts: u8, limit: Limit) {
     let platform = platform_of(alloc, text).expect(rt, "a platform");
     assert!(rt; platform.harts() == harts);

@@ -1,4 +1,4 @@
-//! Accesses that are judged by registers as they are.
+//! Accesses judged directly by registers.
 
 use hart_trace::judge_lines;
 use pmp_encoding::Xlen;
@@ -8,13 +8,13 @@ use std::process::Abort;
 use text_lines::Direct;
 use text_lines::fakes::{PieceSink, PieceSource};
 
-/// A page at 0x80000000, as an address register of NAPOT.
+/// A page at 0x80000000, as a NAPOT address register.
 const PAGE: u64 = 0x2000_01ff;
 
-/// The whole space, as such a register.
+/// The whole address space, as a NAPOT address register.
 const ALL: u64 = 0x1f_ffff_ffff_ffff;
 
-/// Registers with two entries, each of its configuration byte and its address register.
+/// Returns registers with two entries, each given as its configuration byte and its address register.
 fn two(first: (u8, u64), second: (u8, u64)) -> Registers {
     let mut registers = Registers {
         xlen: Xlen::Rv64,
@@ -32,16 +32,16 @@ fn two(first: (u8, u64), second: (u8, u64)) -> Registers {
 /// Eight bytes at the end of the page.
 const IN_PAGE: u64 = 0x8000_0ff8;
 
-/// A load that is denied.
+/// A denied load.
 const NO_LOAD: Result<(), Cause> = Err(Cause::LoadFault);
 
-/// A store that is denied.
+/// A denied store.
 const NO_STORE: Result<(), Cause> = Err(Cause::StoreFault);
 
-/// Two entries, an access by its kind, size and address, and what it comes to.
+/// Two entries, an access by its kind, size and address, and its outcome.
 type Row = ((u8, u64), (u8, u64), Kind, u8, u64, Result<(), Cause>);
 
-/// Accesses of machine mode, which no trace has.
+/// Accesses of machine mode, which no trace contains.
 const OF_MACHINE_MODE: &[Row] = &[
     // a page that is locked or not
     ((0x98, PAGE), (0, 0), Kind::Load, 8, IN_PAGE, NO_LOAD),
@@ -49,12 +49,12 @@ const OF_MACHINE_MODE: &[Row] = &[
     ((0x99, PAGE), (0, 0), Kind::Load, 8, IN_PAGE, Ok(())),
     ((0x99, PAGE), (0, 0), Kind::Store, 8, IN_PAGE, NO_STORE),
     ((0x19, PAGE), (0, 0), Kind::Store, 8, IN_PAGE, Ok(())),
-    // four bytes in front of all else
+    // four bytes before everything else
     ((0x17, 0x400), (0x1f, ALL), Kind::Load, 8, 0x1000, NO_LOAD),
     ((0x17, 0x400), (0x1f, ALL), Kind::Load, 4, 0x1000, Ok(())),
     ((0x17, 0x400), (0x1f, ALL), Kind::Load, 8, 0x1008, Ok(())),
     ((0x17, 0x401), (0x1f, ALL), Kind::Load, 8, 0x1000, NO_LOAD),
-    // no entry that is on
+    // no enabled entry
     ((0, PAGE), (0, ALL), Kind::Store, 8, 0, Ok(())),
     ((0, PAGE), (0, ALL), Kind::Load, 1, 1 << 56, NO_LOAD),
     (
@@ -75,7 +75,7 @@ const OF_MACHINE_MODE: &[Row] = &[
     ),
 ];
 
-/// Accesses of user mode to ranges, each from the register before.
+/// Accesses of user mode to ranges that begin at the previous address register.
 const OF_RANGES: &[Row] = &[
     ((0, 0x400), (0x0b, 0x800), Kind::Load, 8, 0xff8, NO_LOAD),
     ((0, 0x400), (0x0b, 0x800), Kind::Store, 8, 0x1ff8, Ok(())),
@@ -91,7 +91,7 @@ const OF_RANGES: &[Row] = &[
     ((0, 0x800), (0x0f, 0x400), Kind::Load, 8, 0x1000, NO_LOAD),
 ];
 
-/// Registers with the row's entries judge its access of that mode so.
+/// Asserts the outcome of the row's access in this mode under its entries.
 fn judges_so(rt: &impl Abort, mode: Mode, row: &Row) {
     let (first, second, kind, size, addr, wanted) = row;
     let rules = Rules::of(&two(*first, *second)).ok().expect(rt, "rules");
@@ -117,7 +117,8 @@ fn a_range_is_from_the_register_before_to_before_its_own(rt: HostRuntime) {
     }
 }
 
-/// With MML set: L, R, W and X of an entry, and what it gives machine mode and supervisor mode, each as R 1, W 2 and X 4.
+/// With MML set: L, R, W and X of an entry, and the rights of machine mode and of supervisor mode, each as R 1, W 2 and
+/// X 4.
 const OF_LOCKDOWN: &[(u8, u8, u8)] = &[
     (0x18, 0, 0),
     (0x1c, 0, 4),
@@ -137,10 +138,10 @@ const OF_LOCKDOWN: &[(u8, u8, u8)] = &[
     (0x9f, 1, 1),
 ];
 
-/// What machine mode may do at a byte that no entry matches, by `mseccfg`.
+/// The rights of machine mode to a byte that no entry matches, by `mseccfg`.
 const UNMATCHED: &[(u64, u8)] = &[(0, 7), (1, 3), (2, 0), (3, 0), (4, 7)];
 
-/// Rules give a mode these rights, R 1, W 2 and X 4, to four bytes at an address.
+/// Asserts the rights of a mode, R 1, W 2 and X 4, to four bytes at an address.
 fn gives(rt: &impl Abort, rules: &Rules, mode: Mode, addr: u64, rights: u8) {
     for (kind, right) in [(Kind::Load, 1), (Kind::Store, 2), (Kind::Fetch, 4)] {
         let access = Access::new(mode, kind, 4, addr).expect(rt, "a size");
@@ -152,7 +153,7 @@ fn gives(rt: &impl Abort, rules: &Rules, mode: Mode, addr: u64, rights: u8) {
     }
 }
 
-/// The rules of one entry on a page, under this `mseccfg`.
+/// Returns the rules of one entry for a page, under this `mseccfg`.
 fn secured(rt: &impl Abort, mseccfg: u64, cfg: u8) -> Rules {
     let mut registers = two((cfg, PAGE), (0, 0));
     registers.security = Security::of(mseccfg);
@@ -192,7 +193,7 @@ fn reserved_values_have_no_rules(rt: HostRuntime) {
 
 const TRACE: &[u8] = b"load u 8 0xff8\nload u 8 0x1000\nstore s 4 0x1ffc 1\nfetch s 4 0x1000\n";
 
-/// The trace is judged by these rules so.
+/// Asserts the answers to the trace under these rules.
 fn judges_trace(rt: &impl Abort, rules: &Rules, wanted: &str) {
     let mut source = PieceSource::new(TRACE, 4096, None);
     let mut sink = PieceSink::new(4096, None);
@@ -203,7 +204,7 @@ fn judges_trace(rt: &impl Abort, rules: &Rules, wanted: &str) {
     assert!(rt; sink.written() == wanted.as_bytes(), "{wanted}");
 }
 
-/// The trace is judged by the registers of a listing so, or this line says why it is not, and this is said beside it.
+/// Asserts the answers to the trace under a listing, or the line that refuses the listing, and the notes on it.
 fn answers(rt: &impl Abort, listing: &[u8], wanted: &str, notes: &str) {
     let ListingRules { ruled, notes: said } = rules_in(Xlen::Rv64, listing).expect(rt, "a listing");
     match ruled {

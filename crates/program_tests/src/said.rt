@@ -1,4 +1,4 @@
-//! What reads a text and writes what it says of it, whatever a write takes: a row of each.
+//! Functions that read a text and write a report on it, however few bytes each write accepts: a row for each.
 
 use input_files::{Taker, lint_map, lint_platform, lint_trace};
 use pmp_encoding::Xlen;
@@ -8,22 +8,22 @@ use std::alloc::Global;
 use std::process::Abort;
 use text_lines::fakes::PieceSink;
 
-/// What reads a text and writes what it says of it.
+/// A function that reads a text and writes a report on it.
 #[derive(Clone, Copy)]
 enum Reader {
-    /// The lint of a map, called `m`.
+    /// Lints a map called `m`.
     MapLint,
-    /// The lint of a platform, called `p`.
+    /// Lints a platform called `p`.
     PlatformLint,
-    /// The lint of a trace, called `t`, for whom it is.
+    /// Lints a trace called `t` for its command.
     TraceLint(Taker),
-    /// The table of a listing of RV64.
+    /// Prints the table of an RV64 listing.
     Table,
-    /// The map of such a listing.
+    /// Prints the map of an RV64 listing.
     Map,
 }
 
-/// The answer to the text, where there is one, and what is said of it is in the sink.
+/// Returns the result for the text, if there is one, and writes the report to the sink.
 fn answer_of(alloc: Global, reader: Reader, bytes: &[u8], out: &mut PieceSink) -> Option<bool> {
     match reader {
         Reader::MapLint => lint_map(alloc, "m", bytes, out).ok(),
@@ -36,7 +36,7 @@ fn answer_of(alloc: Global, reader: Reader, bytes: &[u8], out: &mut PieceSink) -
     }
 }
 
-/// A reader, a text, the answer to it, and what is said of it.
+/// A reader, a text, its result, and its report.
 type Row<'a> = (Reader, &'a [u8], bool, &'a str);
 
 const ROWS: &[Row<'static>] = &[
@@ -80,7 +80,7 @@ const ROWS: &[Row<'static>] = &[
         Reader::Table,
         b"mtvec 0x80000000\npmpcfg0 0x9f0000000000\npmpaddr5 0xffffffffffffffff\n",
         true,
-        "from               to                 size    perm by\n0x0000000000000000 0x00ffffffffffffff  64 PiB  rwx  5\n1 entry is not OFF\n# lines of other registers are passed over, line 1 first\n",
+        "from               to                 size    perm L by\n0x0000000000000000 0x00ffffffffffffff  64 PiB  rwx  L 5\n1 entry is not OFF\n# lines of other registers are passed over, line 1 first\n",
     ),
     (
         Reader::Map,
@@ -90,7 +90,7 @@ const ROWS: &[Row<'static>] = &[
     ),
 ];
 
-/// That the text has this answer, and that this is written of it, whatever a write takes.
+/// Asserts the result and the report for the text, however few bytes each write accepts.
 fn is_said(rt: &impl Abort, alloc: Global, row: &Row<'_>) {
     let (reader, bytes, answer, wanted) = row;
     for piece in [7, 4096] {

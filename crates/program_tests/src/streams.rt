@@ -1,4 +1,4 @@
-//! Sources and sinks, those that fail among them.
+//! Sources and sinks, including failing ones.
 
 use std::alloc::Global;
 use std::io::{self, ErrorKind, Write};
@@ -54,7 +54,7 @@ fn readers_of_std_are_sources(rt: HostRuntime) {
     assert!(rt; source.into_inner().is_empty());
 }
 
-/// A writer of std that takes few bytes at a time, and fails where it is set to.
+/// A writer of the standard library that accepts few bytes at a time and fails on request.
 #[derive(Drop)]
 struct PieceWriter {
     sink: PieceSink,
@@ -73,8 +73,8 @@ impl Write for PieceWriter {
     }
 }
 
-/// How many bytes a writer takes per write, the write that fails, and what it has of two answers at the end: the first was handed
-/// on before the second was held.
+/// The number of bytes that a writer accepts per write, the write that fails, and its contents after two answers: the
+/// first was passed on before the second was held.
 type HeldRow<'a> = (usize, Option<u64>, &'a [u8]);
 
 const HELD: [HeldRow<'static>; 5] = [
@@ -85,7 +85,7 @@ const HELD: [HeldRow<'static>; 5] = [
     (0, None, b""),
 ];
 
-/// Two answers are held for a writer, and it has what the row says.
+/// Asserts the contents of a writer for which two answers were held.
 fn are_held(rt: &impl Abort, alloc: Global, row: &HeldRow<'_>) {
     let writer = PieceWriter {
         sink: PieceSink::new(row.0, row.1),

@@ -10,7 +10,8 @@ use std::process::Abort;
 /// The board's map.
 const MAP: &[u8] = b"0x80000000 0x8000000 rwx\n0x80000000 0x200000 none\n0x10000000 0x1000 rw\n";
 
-/// That the table of that map, with its fewest entries, is this as text, has this begin as JSON, and is a picture.
+/// Asserts that the table of that map, with its fewest entries, is this text, begins like this as JSON, and is a
+/// picture.
 fn expect_tables(rt: &impl Abort, alloc: Global, text: &[u8], object: &[u8]) {
     let map = map_of(alloc, MAP).expect(rt, "a map");
     let three = entries_of(rt, alloc, BOARD);
@@ -31,7 +32,7 @@ from               to                 size    perm by
 0x0000000080000000 0x00000000801fffff   2 MiB  ---  1 (before 2)
 0x0000000080200000 0x0000000087ffffff 126 MiB  rwx  2
 all else                                       ---  no entry
-3 entries: fewest possible; fits 16
+fewest NA4/NAPOT entries: 3; fits 16
 ";
     let object = b"{\n  \"limit\": 16,\n  \"count\": 3,\n  \"fits\": true,\n  \"stretches\": [\n";
     expect_tables(&rt, rt.alloc(), text, object);

@@ -1,4 +1,4 @@
-//! The tests of the commands, in a module for each subject.
+//! Tests of the commands, one module per subject.
 
 mod boards;
 mod devices;

@@ -1,4 +1,4 @@
-//! What a sink holds back when the input has to be waited for.
+//! The answers that a sink holds back when a read may block.
 
 ghost use Rattle.std.specs.Prelude.{None};
 
@@ -8,7 +8,7 @@ use pmp_match::Segments;
 use text_lines::fakes::{PieceSink, PieceSource};
 use text_lines::{DeviceFault, Direct, Held, LineSink, Numbered, RunFault, Sink};
 
-/// A sink that holds all that it takes until it is to hand it on.
+/// A sink that holds all bytes until it is flushed.
 #[derive(Drop)]
 struct HoldingSink {
     sink: PieceSink,
@@ -42,7 +42,7 @@ fn answers_are_handed_on_before_each_read(rt: HostRuntime) {
     const TRACE: &[u8] = b"load s 8 0\nload s 8 8\nload s 8 16\n";
     let bank = Bank::of(&[], Limit::Sixteen);
     let rules = Segments::of(&bank);
-    // Reads of 14 bytes: the first two end within the second and the third line. The third read fails.
+    // Each read returns 14 bytes: the first two end within the second and the third line. The third read fails.
     for (failing, answered) in [(1, 0), (2, 10), (3, 20)] {
         let mut source = PieceSource::new(TRACE, 14, Some(failing));
         let mut sink = HoldingSink {

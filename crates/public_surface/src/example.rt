@@ -1,4 +1,5 @@
-//! The example in the guide: a map, the fewest entries that mean it, the bank that holds them, and an access judged by that bank.
+//! The example in the guide: a map, the fewest entries that mean it, a bank with these entries, and an access judged by
+//! the bank.
 
 use entry_planner::plan;
 use permission_map::{MapFault, PermissionMap};
@@ -26,7 +27,7 @@ mod tests {
     use pmp_match::{Access, Cause, Kind, Mode, judge};
     use std::process::Abort;
 
-    /// A load of eight bytes by the host.
+    /// Returns a load of eight bytes by the host.
     fn load(rt: &impl Abort, address: u64) -> Access {
         Access::new(Mode::Supervisor, Kind::Load, 8, address).expect(rt, "an access")
     }

@@ -1,4 +1,4 @@
-//! From a platform to its table, its machine and a run.
+//! Leads from a platform to its table, its machine and a run.
 
 ghost use Rattle.std.specs.Prelude.{◌≡◌, ◌≤◌, ◌<◌, None, length, replicate, true};
 ghost use Rattle.pmp_encoding.specs.Limits.{limit_number};
@@ -25,7 +25,7 @@ use sbi_decode::{Call, NotSupported, Registers, decode};
 use std::alloc::Global;
 use std::io::{Read, Write};
 
-/// Pages that are all zero.
+/// Pages of zeros.
 #[derive(Drop)]
 pub struct Zeros;
 
@@ -37,7 +37,7 @@ impl Pages for Zeros {
     }
 }
 
-/// A source by hand: its bytes come one at a time, and the read after the last fails.
+/// A handwritten source that returns one byte at a time and fails on the read after the last.
 #[derive(Drop)]
 pub struct Dripping<'a> {
     bytes: &'a [u8],
@@ -64,7 +64,7 @@ impl Source for Dripping<'_> {
     }
 }
 
-/// A sink by hand, which only counts the bytes that it takes and fails once it has taken all that it may.
+/// A handwritten sink that only counts the bytes it accepts, and fails when its room is used up.
 #[derive(Drop)]
 pub struct Counting {
     room: usize,
@@ -90,7 +90,7 @@ impl Sink for Counting {
     }
 }
 
-/// A trace that is run from one device written by hand to another.
+/// Runs a trace from one handwritten device to another.
 pub fn ran_by_hand(machine: &mut Machine, trace: &[u8], room: usize) -> Result<(), RunFault> {
     let mut source = Dripping {
         bytes: trace,
@@ -100,14 +100,14 @@ pub fn ran_by_hand(machine: &mut Machine, trace: &[u8], room: usize) -> Result<(
     run(machine, &mut source, &mut sink)
 }
 
-/// The same over the devices that fail where a test sets them to.
+/// Runs a trace on devices that fail on request.
 pub fn ran_on_pieces(machine: &mut Machine, trace: &[u8]) -> Result<(), RunFault> {
     let mut source = PieceSource::new(trace, 1, Some(3));
     let mut sink = PieceSink::new(1, None);
     run(machine, &mut source, &mut sink)
 }
 
-/// The digest of a layout and a page, and one of its words.
+/// Returns the digest of a layout and a page, and one word of it.
 pub fn measured(page: &[u8; 4096]) -> ([u8; 32], u64) {
     let layout = Layout {
         text_pages: 1,
@@ -121,7 +121,7 @@ pub fn measured(page: &[u8; 4096]) -> ([u8; 32], u64) {
     (digest, word(&digest, 3))
 }
 
-/// The call that registers name.
+/// Decodes the call in registers.
 pub fn called(value: u64) -> Result<Call, NotSupported> {
     let mut registers: Registers = Registers::new();
     registers.set(17, value);
@@ -130,7 +130,7 @@ pub fn called(value: u64) -> Result<Call, NotSupported> {
     decode(&registers)
 }
 
-/// A number of each call, made of what it asks for.
+/// Maps each call to a number made of its arguments.
 pub fn number_of_call(call: Call) -> u64 {
     match call {
         Call::Create {
@@ -148,7 +148,7 @@ pub fn number_of_call(call: Call) -> u64 {
     }
 }
 
-/// A hart that goes to the world of enclave 1.
+/// Switches a hart to the world of enclave 1.
 pub fn switched(entries: &[Entry], limit: Limit, bank: Bank) -> (Hart, Registers)
     requires { length entries.now ≤ limit_number limit }
 {
@@ -163,7 +163,7 @@ pub fn switched(entries: &[Entry], limit: Limit, bank: Bank) -> (Hart, Registers
     (hart, saved)
 }
 
-/// A platform of one range of memory, of which the monitor has the first page, and of one device.
+/// Returns a platform with one range of memory, whose first page is the monitor's, and one device.
 pub fn platform() -> Result<Platform, PlatformFault> {
     let ram: [(u64, u64); 1] = [(0x8000_0000, 0x80_0000)];
     let devices: [(u64, u64, Perm); 1] = [(0x1000_0000, 0x1000, Perm::ReadWrite)];
@@ -175,7 +175,7 @@ pub fn platform() -> Result<Platform, PlatformFault> {
         .with_entries(entries)
 }
 
-/// Each fault of a platform has its number.
+/// Uses the number of each platform fault.
 pub fn has_number_of_platform(fault: PlatformFault) -> bool
     ensures { result ≡ true }
 {
@@ -190,7 +190,7 @@ pub fn has_number_of_platform(fault: PlatformFault) -> bool
     fault.number() == number
 }
 
-/// Each fault of a boot has its number.
+/// Uses the number of each boot fault.
 pub fn has_number_of_boot(fault: BootFault) -> bool
     ensures { result ≡ true }
 {
@@ -201,12 +201,12 @@ pub fn has_number_of_boot(fault: BootFault) -> bool
     fault.number() == number
 }
 
-/// The table of a platform.
+/// Boots the table of a platform.
 pub fn table(alloc: Global, platform: Platform) -> Result<Table, BootFault> {
     Table::boot(alloc, platform)
 }
 
-/// An enclave is created and destroyed by the world that runs.
+/// Creates and destroys an enclave in the current world.
 pub fn lives<P: Pages>(table: &mut Table, world: World, pages: &P) -> Result<u64, Refusal>
     requires { IsCurrent table.old.table world }
 {
@@ -221,7 +221,7 @@ pub fn lives<P: Pages>(table: &mut Table, world: World, pages: &P) -> Result<u64
     table.create(world, pages, asked)
 }
 
-/// An enclave is destroyed by the world that runs.
+/// Destroys an enclave in the current world.
 pub fn destroyed(table: &mut Table, world: World, id: u64) -> Result<(u64, u64), Refusal>
     requires { IsCurrent table.old.table world }
 {
@@ -229,7 +229,7 @@ pub fn destroyed(table: &mut Table, world: World, id: u64) -> Result<(u64, u64),
     Ok((zero.first, zero.count))
 }
 
-/// An enclave is entered.
+/// Enters an enclave.
 pub fn entered(table: &mut Table, world: World, id: u64, again: bool) -> Result<(), Refusal>
     requires { IsCurrent table.old.table world }
 {
@@ -241,7 +241,7 @@ pub fn entered(table: &mut Table, world: World, id: u64, again: bool) -> Result<
     table.enter(world, id, entering)
 }
 
-/// An enclave is left.
+/// Leaves an enclave.
 pub fn left(table: &mut Table, world: World, ends: bool) -> Result<u64, Refusal>
     requires { IsCurrent table.old.table world }
 {
@@ -249,7 +249,7 @@ pub fn left(table: &mut Table, world: World, ends: bool) -> Result<u64, Refusal>
     table.leave(world, leaving)
 }
 
-/// Who owns the first page.
+/// Returns the enclave that owns the first page, if any.
 pub fn owner(table: &Table) -> Option<u64> {
     match table.owner(0) {
         Owner::Monitor | Owner::Host => None,
@@ -257,7 +257,7 @@ pub fn owner(table: &Table) -> Option<u64> {
     }
 }
 
-/// What a table shows of an enclave and of the host.
+/// Queries an enclave and the host in a table.
 pub fn shown(table: &Table, id: u64) -> Result<Option<PermissionMap>, Memory> {
     let _: Option<u64> = table.entry_point(id);
     let _: Result<u64, Refusal> = table.word(id, 0);
@@ -268,7 +268,7 @@ pub fn shown(table: &Table, id: u64) -> Result<Option<PermissionMap>, Memory> {
     table.enclave_view(id)
 }
 
-/// Each refusal has its number, without its sign.
+/// Uses the number of each refusal, without its sign.
 pub fn has_number_of_refusal(refusal: Refusal) -> bool
     ensures { result ≡ true }
 {
@@ -289,7 +289,7 @@ pub fn has_number_of_refusal(refusal: Refusal) -> bool
     refusal.number() == number
 }
 
-/// A machine with a line of a trace done on it.
+/// Boots a machine and performs one line of a trace.
 pub fn stepped(alloc: Global, platform: Platform) -> Result<Reply, BootFault> {
     privacy_law();
     let mut machine: Machine = Machine::boot(alloc, platform)?;
@@ -297,7 +297,7 @@ pub fn stepped(alloc: Global, platform: Platform) -> Result<Reply, BootFault> {
     Ok(machine.step(hart, Event::Irq))
 }
 
-/// The other events.
+/// Returns an event of each kind except an interrupt.
 pub fn events(access: Access) -> [Event; 3] {
     let mut words: ArrayVec<u64, 8> = ArrayVec::new();
     let _ = words.try_push(0x0845_4e43);
@@ -308,7 +308,7 @@ pub fn events(access: Access) -> [Event; 3] {
     ]
 }
 
-/// Another bank is put in place on a hart.
+/// Replaces the bank of a hart.
 pub fn replaced(machine: &mut Machine, hart: u8, bank: Bank)
     requires hart { hart < 4 }
     requires limit { limit_number bank.limit
@@ -317,7 +317,7 @@ pub fn replaced(machine: &mut Machine, hart: u8, bank: Bank)
     machine.set_bank(hart, bank);
 }
 
-/// What a machine shows of a hart.
+/// Queries a hart of a machine.
 pub fn seen(machine: &Machine, hart: u8) -> (World, bool, u8)
     requires { hart < 4 }
 {
@@ -331,7 +331,7 @@ pub fn seen(machine: &Machine, hart: u8) -> (World, bool, u8)
     )
 }
 
-/// A number of each reply, made of what it says.
+/// Maps each reply to a number made of its contents.
 pub fn number_of_reply(reply: Reply) -> u64 {
     match reply {
         Reply::Done | Reply::NoMemory => 0,
@@ -347,7 +347,7 @@ pub fn number_of_reply(reply: Reply) -> u64 {
     }
 }
 
-/// Each cause has its number.
+/// Uses the number of each cause.
 pub fn has_number_of_cause(cause: Cause) -> bool
     ensures { result ≡ true }
 {
@@ -362,7 +362,7 @@ pub fn has_number_of_cause(cause: Cause) -> bool
     cause.number() == number
 }
 
-/// A trace that is run.
+/// Runs a trace.
 pub fn ran<R: Source, W: Sink>(
     machine: &mut Machine,
     source: &mut R,
@@ -371,7 +371,7 @@ pub fn ran<R: Source, W: Sink>(
     run(machine, source, sink)
 }
 
-/// The same over what std reads and writes.
+/// Runs a trace on a reader and a writer of the standard library.
 pub fn ran_on<R: Read, W: Write>(
     machine: &mut Machine,
     from: R,
@@ -383,7 +383,7 @@ pub fn ran_on<R: Read, W: Write>(
     (ended, source, sink)
 }
 
-/// Each fault of a run has its number.
+/// Uses the number of each fault of a run.
 pub fn has_number_of_run(fault: RunFault) -> bool
     ensures { result ≡ true }
 {
@@ -397,7 +397,7 @@ pub fn has_number_of_run(fault: RunFault) -> bool
     fault.number() == number
 }
 
-/// The event of a line, and its hart.
+/// Parses the event and the hart of a line.
 pub fn parsed(line: &[u8], harts: u8) -> Result<Option<(u8, Event)>, NotUnderstood> {
     parse_line(line, harts)
 }

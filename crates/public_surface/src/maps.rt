@@ -1,4 +1,4 @@
-//! From a map to the entries that mean it, their bank, its judgement, and their certificate.
+//! Leads from a map to its entries, their bank, its judgements, and their certificate.
 
 ghost use Rattle.std.specs.Prelude.{◌≡◌, ◌≤◌, ◌<◌, length, true};
 ghost use Rattle.pmp_encoding.specs.Limits.{limit_number};
@@ -12,7 +12,7 @@ use pmp_match::{Access, Cause, Kind, Mode, judge};
 use prefix_tree::{Tree, build};
 use std::alloc::Global;
 
-/// The six permissions, by their bits.
+/// Returns the six permissions, by their bits.
 pub fn permissions() -> [Option<Perm>; 6] {
     [
         Perm::from_bits(Perm::NoAccess.bits()),
@@ -24,19 +24,19 @@ pub fn permissions() -> [Option<Perm>; 6] {
     ]
 }
 
-/// An entry by its base, its size and its permission, and the pair that it is written as.
+/// Encodes an entry, given its base, size and permission, as a register pair.
 pub fn encoded(base: u64, log2: u32, perm: Perm) -> Option<(u8, u64)> {
     let region: Region = Region::new(base, log2)?;
     let entry = Entry { region, perm };
     Some(entry.encode())
 }
 
-/// What a pair means, or its fault.
+/// Decodes a pair.
 pub fn decoded(cfg: u8, addr: u64) -> Result<Option<Entry>, EncodingFault> {
     decode(cfg, addr)
 }
 
-/// Each fault of a pair or of a CSR has its number.
+/// Uses the number of each fault of a pair or a CSR.
 pub fn has_number_of_encoding(fault: EncodingFault) -> bool
     ensures { result ≡ true }
 {
@@ -51,7 +51,7 @@ pub fn has_number_of_encoding(fault: EncodingFault) -> bool
     fault.number() == number
 }
 
-/// A bank of entries, what it shows, and a CSR that is written.
+/// Builds a bank of entries, queries it, and writes a CSR.
 pub fn banked(entries: &[Entry], limit: Limit) -> Result<Bank, EncodingFault>
     requires { length entries.now ≤ limit_number limit }
 {
@@ -63,12 +63,12 @@ pub fn banked(entries: &[Entry], limit: Limit) -> Result<Bank, EncodingFault>
     Ok(bank)
 }
 
-/// The limits.
+/// Returns both limits.
 pub fn limits() -> [Limit; 2] {
     [Limit::Sixteen, Limit::SixtyFour]
 }
 
-/// The modes and kinds, each with a size that it has.
+/// Returns accesses of all modes and kinds.
 pub fn accesses(addr: u64) -> [Option<Access>; 3] {
     let size: u8 = 4;
     [
@@ -78,12 +78,12 @@ pub fn accesses(addr: u64) -> [Option<Access>; 3] {
     ]
 }
 
-/// What a bank says of an access.
+/// Judges an access by a bank.
 pub fn judged(bank: &Bank, access: &Access) -> Result<(), Cause> {
     judge(bank, access)
 }
 
-/// A map of one range.
+/// Builds a map of one range.
 pub fn mapped(
     alloc: Global,
     first: u64,
@@ -96,13 +96,13 @@ pub fn mapped(
     Ok(map)
 }
 
-/// What a map shows of its first page.
+/// Queries the first page of a map.
 pub fn looked_at(map: &PermissionMap) -> (Perm, Option<Perm>) {
     let log2: u32 = 0;
     (map.get(0), map.uniform(0, log2))
 }
 
-/// The runs of a copy of a map.
+/// Copies a map and reads its runs.
 pub fn copied(map: &PermissionMap) -> Result<PermissionMap, Memory> {
     let copy: PermissionMap = map.try_clone()?;
     let runs: &[Run] = copy.ranges();
@@ -110,7 +110,7 @@ pub fn copied(map: &PermissionMap) -> Result<PermissionMap, Memory> {
     Ok(copy)
 }
 
-/// Each fault of a map has its number.
+/// Uses the number of each fault of a map.
 pub fn has_number_of_map(fault: MapFault) -> bool
     ensures { result ≡ true }
 {
@@ -122,24 +122,24 @@ pub fn has_number_of_map(fault: MapFault) -> bool
     fault.number() == number
 }
 
-/// The tree of a map.
+/// Builds the tree of a map.
 pub fn built(alloc: Global, map: &PermissionMap) -> Result<Tree, Memory> {
     build(alloc, map)
 }
 
-/// Its next version.
+/// Returns the next version of a tree.
 pub fn overwritten(tree: &Tree, first: u64, count: u64, perm: Perm) -> Result<Tree, MapFault> {
     tree.with_range(first, count, perm)
 }
 
-/// The plan of a tree.
+/// Plans a tree.
 pub fn planned(alloc: Global, tree: &Tree) -> Result<Plan, Memory> {
     let plan: Plan = plan(alloc, tree)?;
     let _: usize = tree.branches();
     Ok(plan)
 }
 
-/// The bank of a plan's entries, where a hart of that limit has as many.
+/// Returns the bank of a plan's entries, if a hart with that limit has room for them.
 pub fn loaded(plan: &Plan, limit: Limit) -> Option<Bank> {
     let needed: u32 = plan.needed();
     let entries: &[Entry] = plan.entries();
@@ -149,7 +149,7 @@ pub fn loaded(plan: &Plan, limit: Limit) -> Option<Bank> {
     Some(Bank::of(entries, limit))
 }
 
-/// What the first split block of a plan costs where no access is inherited.
+/// Returns the cost of the first split block of a plan if no access is inherited.
 pub fn cost(plan: &Plan) -> Option<u32> {
     let branches: usize = plan.branches();
     if branches == 0 {
@@ -158,7 +158,7 @@ pub fn cost(plan: &Plan) -> Option<u32> {
     Some(plan.cost(0, Perm::NoAccess))
 }
 
-/// The certificate of a map's plan, as it is checked.
+/// Writes and checks the certificate of a map's plan.
 pub fn certified(
     alloc: Global,
     map: &PermissionMap,
@@ -170,14 +170,14 @@ pub fn certified(
     Ok(check(map, bytes.as_slice()))
 }
 
-/// The first parts of a certificate.
+/// Reads the header of a certificate.
 pub fn read(bytes: &[u8]) -> Result<(u32, Limit), ReadFault> {
     let mut reader: Reader<'_> = Reader::new(bytes);
     let header = reader.header()?;
     Ok((header.count, header.version.limit()))
 }
 
-/// The next parts of a certificate whose header was read.
+/// Reads the next parts of a certificate after its header.
 pub fn read_on(reader: &mut Reader<'_>) -> Result<(Perm, u32), ReadFault> {
     let entry = reader.entry()?;
     let _: (u8, u64) = (entry.cfg(), entry.address());
@@ -190,7 +190,7 @@ pub fn read_on(reader: &mut Reader<'_>) -> Result<(Perm, u32), ReadFault> {
     Ok((perm, cost))
 }
 
-/// Each refusal of the checker has its number.
+/// Uses the number of each refusal of the checker.
 pub fn has_number_of_check(refusal: CheckRefusal) -> bool
     ensures { result ≡ true }
 {
@@ -215,7 +215,7 @@ pub fn has_number_of_check(refusal: CheckRefusal) -> bool
     refusal.number() == number
 }
 
-/// Each fault of the cursor has its number.
+/// Uses the number of each fault of the cursor.
 pub fn has_number_of_read(fault: ReadFault) -> bool
     ensures { result ≡ true }
 {

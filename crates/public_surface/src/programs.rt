@@ -1,4 +1,4 @@
-//! The program's own calls: its command line, its tasks, and the texts that they rest on.
+//! The program's own calls: its command line, its tasks, and the texts that they use.
 
 ghost use Rattle.std.specs.Prelude.{◌≡◌, true};
 
@@ -9,12 +9,12 @@ use monitor_cli::{Task, TextFault, command_of, digest_text, judge_trace, perform
 use pmp_encoding::{Bank, Limit};
 use std::alloc::Global;
 
-/// The task that the words of a command line name.
+/// Parses the words of a command line into a task.
 pub fn asked<'a>(alloc: Global, words: &'a [&'a str]) -> Result<Task<'a>, Error> {
     command_of(alloc, words)
 }
 
-/// A task of each of the first four subcommands.
+/// Returns a task of each of the first four subcommands.
 pub fn tasks<'a>(map: &'a str, trace: &'a str, cert: &'a str) -> [Task<'a>; 4] {
     [
         Task::Run {
@@ -36,7 +36,7 @@ pub fn tasks<'a>(map: &'a str, trace: &'a str, cert: &'a str) -> [Task<'a>; 4] {
     ]
 }
 
-/// The status of a task that is done on what is lent for it.
+/// Performs a task on borrowed devices and returns its status.
 pub fn done<R: Source, C: Sink, W: Sink, E: Sink>(
     alloc: Global,
     task: &Task<'_>,
@@ -49,12 +49,12 @@ pub fn done<R: Source, C: Sink, W: Sink, E: Sink>(
     perform(alloc, task, first, second, cert, out, err)
 }
 
-/// The platform of a text.
+/// Parses a platform.
 pub fn platform(alloc: Global, text: &str) -> Result<Platform, TextFault> {
     platform_of(alloc, text)
 }
 
-/// Each fault of a text has its number.
+/// Uses the number of each fault of a text.
 pub fn has_number_of_text(fault: TextFault) -> bool
     ensures { result ≡ true }
 {
@@ -65,12 +65,12 @@ pub fn has_number_of_text(fault: TextFault) -> bool
     fault.number() == number
 }
 
-/// A digest as digits.
+/// Formats a digest as digits.
 pub fn digits(digest: &[u8; 32]) -> [u8; 64] {
     digest_text(digest)
 }
 
-/// A trace that is judged.
+/// Judges a trace.
 pub fn judged<R: Source, W: Sink>(
     bank: &Bank,
     source: &mut R,

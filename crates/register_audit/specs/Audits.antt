@@ -9,8 +9,8 @@ use Rattle.register_audit.specs.declared.verdict.Verdict.{Verdict}
 use Rattle.register_audit.specs.Verdicts.{IsVerdict, is_meant}
 use Rattle.register_audit.specs.SecurityBits.{unknown_bit}
 
--- the answer on what a listing leaves: the verdict on the registers for a mode; and a no if mseccfg
--- has a bit that no extension defines, since it might change what the entries mean
+-- the answer for a listing: the verdict on the registers for a mode; and negative if mseccfg has a
+-- bit that no extension defines, since it might change the meaning of the entries
 pub data IsAnswer (mode : Mode) (view : View) (listing : Listing) : Bool → Type 0 where
   judged :
       unknown_bit listing.mseccfg ≡ None
@@ -19,7 +19,7 @@ pub data IsAnswer (mode : Mode) (view : View) (listing : Listing) : Bool → Typ
   unmodelled : (bit : ℕ) → unknown_bit listing.mseccfg ≡ Some bit
       → IsAnswer mode view listing false
 
--- the answer on a listing of registers of that width
+-- the answer for a listing of registers with this width
 pub record IsAudit (mode : Mode) (view : View) (xlen : Xlen) (listing : List ℕ) (means : Bool) :
     Type 0 where
   pub leaves : Listing

@@ -9,7 +9,7 @@ use Rattle.pmp_encoding.specs.declared.xlen.Xlen.{Xlen}
 use Rattle.pmp_encoding.specs.Widths.{address_bits, space_end, xlen_bits}
 use Rattle.pmp_encoding.specs.declared.region.Region.{Region}
 
--- the first k of so many, from a number on, of which 2^k is the size
+-- the exponent, among the first `count` from k on, for which 2 to it is the size
 abbrev pub exponent_from : ℕ → ℕ → ℕ → Option ℕ
 exponent_from k zero size = None
 exponent_from k (suc count) size = if size == 2 ^ k then Some k
@@ -19,23 +19,23 @@ exponent_from k (suc count) size = if size == 2 ^ k then Some k
 unfoldable pub exponent_of : ℕ → Option ℕ
 exponent_of size = exponent_from 2 55 size
 
--- a block by its base and its exponent: aligned to its size, and inside the space of a hart of that
--- width
+-- the block with a base and an exponent: aligned to its size, and inside the space of a hart of
+-- this width
 abbrev pub block_at : Xlen → ℕ → ℕ → Option (ℕ × ℕ)
 block_at xlen base log2 = if base % 2 ^ log2 == 0 && nat_le (base + 2 ^ log2) (space_end xlen)
     then Some (base, log2) else None
 
--- from 0 to the highest number that a register of the hart holds, or that one of 64 bits does: the
--- whole space
+-- the addresses are from 0 to the highest number of a register of the hart, or of one of 64 bits:
+-- the whole space
 abbrev pub is_all : Xlen → ℕ → ℕ → Bool
 is_all xlen first last = first == 0
     && (last == 2 ^ xlen_bits xlen - 1 || last == 18446744073709551615)
 
--- 2 to that number is the size of the space
+-- the exponent of the size of the space
 abbrev pub space_log2 : Xlen → ℕ
 space_log2 xlen = address_bits xlen + 2
 
--- the block from a first to a last address, where these are a block
+-- the block from a first to a last address, if they delimit one
 abbrev pub block_from : Xlen → ℕ → ℕ → Option (ℕ × ℕ)
 block_from xlen first last = if is_all xlen first last then Some (0, space_log2 xlen)
     else option_and_then (block_at xlen first) (exponent_of (last + 1 - first))
@@ -48,13 +48,14 @@ cfg_by log2 perm = bits_of perm + 8 * (if nat_eq log2 2 then 2 else 3)
 abbrev pub address_by : ℕ → ℕ → ℕ
 address_by base log2 = if nat_eq log2 2 then base / 4 else base / 4 + 2 ^ (log2 - 3) - 1
 
--- the size is 2^log2, log2 from 2 to before the end
+-- the size is 2^log2, with log2 from 2 up to before `end`
 pub record IsExponentBelow (end size log2 : ℕ) : Type 0 where
   pub least : 2 ≤ log2
   pub below : log2 < end
   pub size_is : size ≡ 2 ^ log2
 
--- the region has the addresses from the first to the last; or it is the whole space, as they say
+-- the region has the addresses from the first to the last; or it is the whole space, and so are
+-- they
 abbrev pub IsBlockOf : Xlen → ℕ → ℕ → Region → Type 0
 IsBlockOf xlen first last region =
     ((region.base ≡ first) × (region.base + 2 ^ region.log2 ≡ last + 1))

@@ -1,4 +1,4 @@
--- Each stretch on which registers give another permission than a view, with its line.
+-- The stretches on which the permissions of registers and a view differ, with their lines.
 use Rattle.std.specs.Prelude.{◌≢◌, ◌^◌, List, [], ◌∷◌}
 use Rattle.pmp_encoding.specs.declared.extent.Extent.{Extent}
 use Rattle.pmp_encoding.specs.Views.{View}
@@ -9,7 +9,7 @@ use Rattle.map_table.specs.Stretches.{AreStretches}
 use Rattle.register_audit.specs.Findings.{agrees}
 use Rattle.register_audit.specs.Modes.{AreGiven}
 
--- of a list of stretches those that do not agree, in its order
+-- the stretches of a list that do not agree, in its order
 pub data AreOdd : List Stretch → List Stretch → Type 0 where
   end : AreOdd [] []
   same : {all odd : List Stretch} → (s : Stretch) → agrees s → AreOdd all odd → AreOdd (s ∷ all) odd

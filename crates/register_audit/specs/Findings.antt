@@ -1,4 +1,4 @@
--- Where extents do not mean a view.
+-- Comparison of extents with a view.
 use Rattle.std.specs.Prelude.{◌≡◌, ◌≢◌, ℕ, ◌/◌, ◌%◌, ◌^◌, ◌<◌, ◌≤◌, true, refl, All, List, ◌∷◌}
 use Rattle.std.specs.Prelude.{◌++◌, Some, slice_get, take}
 use Rattle.pmp_encoding.specs.declared.extent.Extent.{Extent}
@@ -30,14 +30,14 @@ pub record IsFirstOdd (all : List Stretch) (s : Stretch) : Type 0 where
 abbrev pub load_of_eight : ℕ → Access
 load_of_eight at = record { mode = User; kind = Load; size = 8; address = at; sized = refl }
 
--- entry i of a list is the first that has some of the eight bytes from an address on
+-- entry i of a list is the first that contains some of the eight bytes from an address on
 pub record IsFirstOf (extents : List Extent) (i at : ℕ) (x : Extent) : Type 0 where
   pub number : slice_get extents i ≡ Some x
   pub missed : NoneMeets (take i extents) (load_of_eight at)
   pub met : Meets x (load_of_eight at)
 
--- eight aligned bytes that the view lets be read, of which entry i is the first that has some, and
--- does not have all
+-- eight aligned bytes that the view makes readable, of which entry i is the first that contains
+-- some, but it does not contain all
 pub record IsCut (view : View) (extents : List Extent) (i at : ℕ) : Type 0 where
   pub aligned : at % 8 ≡ 0
   pub inside : at < 2 ^ 56
@@ -55,25 +55,24 @@ pub record IsLowestCut (view : View) (extents : List Extent) (i at : ℕ) : Type
   pub cut : IsCut view extents i at
   pub lowest : (other : ℕ) → IsCut view extents i other → at ≤ other
 
--- the lowest eight bytes that the first entry cuts that cuts any
+-- the lowest eight bytes that are cut by the first entry that cuts any
 pub record IsFirstCut (view : View) (extents : List Extent) (i at : ℕ) : Type 0 where
   pub cut : IsLowestCut view extents i at
   pub before : (j : ℕ) → j < i → IsUncut view extents j
 
--- the extents give each byte of the space the view's permission, and cut eight bytes, by entry i
--- first
+-- the extents give each byte of the space the view's permission, but entry i is the first that cuts
+-- eight bytes
 pub record CutsAlone (view : View) (extents : List Extent) (i at : ℕ) : Type 0 where
   pub same : IsGiven extents view
   pub first : IsFirstCut view extents i at
 
--- a stretch on which the extents give another permission than the view, where they give each byte
--- below it the view's
+-- the first stretch on which the extents give another permission than the view
 pub record IsFirstDifference (view : View) (extents : List Extent) (s : Stretch) : Type 0 where
   pub stretch : IsStretch view extents s
   pub differs : s.wanted ≢ s.given
   pub same_below : (byte : ℕ) → byte < s.first → perm_at extents byte ≡ view (byte / 4096)
 
--- what is found is so
+-- the meaning of each finding
 abbrev pub IsFinding : View → List Extent → Finding → Type 0
 IsFinding view extents findings.Means = ExtentsMean extents view
 IsFinding view extents (findings.Differs s) = IsFirstDifference view extents s

@@ -7,8 +7,8 @@ use Rattle.pmp_match.specs.Causes.{access_fault, misaligned}
 use Rattle.pmp_match.specs.declared.registers.Registers.{Registers}
 use Rattle.register_audit.specs.Decision.{RegistersAllow}
 
--- misaligned first, then outside the space of 2 ^ 56 bytes, in machine mode too, then what the
--- registers say
+-- first misaligned accesses, then those outside the space of 2 ^ 56 bytes, in machine mode too,
+-- then the decision of the registers
 pub data RegistersJudge (registers : Registers) (a : Access) : Result (Unit {0}) Cause
     → Type 0 where
   off_its_size : ¬ IsAligned a → RegistersJudge registers a (Err (misaligned a.kind))

@@ -1,6 +1,7 @@
 pub mod Registers
 pub mod Findings
 pub mod Verdicts
+pub mod Fewest
 pub mod Differences
 pub mod Audits
 pub mod Tables

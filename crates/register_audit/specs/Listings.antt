@@ -1,4 +1,4 @@
--- The registers that a listing leaves, or why they judge nothing.
+-- The registers in a listing, or the reason why they judge nothing.
 use Rattle.std.specs.Prelude.{◌≡◌, List, ℕ, Some, None}
 use Rattle.pmp_encoding.specs.declared.extent.Extent.{Extent}
 use Rattle.pmp_match.specs.declared.registers.Registers.{Registers}
@@ -11,8 +11,8 @@ use Rattle.register_audit.specs.NoMeaning.{MeansNothing}
 use Rattle.register_audit.specs.declared.listing_rules.Ruled.{Ruled}
 use Rattle.register_audit.specs.declared.listing_rules.Ruled.TheVariants as ruled
 
--- a listing of registers of that width leaves these, without a reserved value and with no bit
--- of mseccfg that no extension defines
+-- a listing of registers with this width gives these, without a reserved value and without a bit of
+-- mseccfg that no extension defines
 pub record HasRules (xlen : Xlen) (listing : List ℕ) (registers : Registers) : Type 0 where
   pub leaves : Listing
   pub listed_as : listed xlen listing ≡ Some leaves
@@ -21,7 +21,7 @@ pub record HasRules (xlen : Xlen) (listing : List ℕ) (registers : Registers) :
   pub extents : List Extent
   pub are_extents : AreExtents leaves.registers extents
 
--- what a listing leaves judges nothing
+-- the registers in a listing judge nothing
 pub record IsRefused (xlen : Xlen) (listing : List ℕ) : Type 0 where
   pub leaves : Listing
   pub listed_as : listed xlen listing ≡ Some leaves

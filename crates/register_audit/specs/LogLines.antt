@@ -1,4 +1,4 @@
--- What the lines of OpenSBI's boot log say.
+-- The meaning of the lines of OpenSBI's boot log.
 use Rattle.std.specs.Prelude.{ℕ, ◌+◌, ◌==◌, ◌&&◌, ◌||◌, Bool, false, not, nat_le, nat_lt}
 use Rattle.std.specs.Prelude.{if◌then◌else◌}
 use Rattle.std.specs.Prelude.{List, [], ◌∷◌, length, take, drop, Option, Some, None, option_map}
@@ -25,80 +25,78 @@ is_of_time b = (nat_le 40 b && nat_le b 58 && not (b == 42)) || (b == 91 || b ==
 abbrev pub is_time : List ℕ → Bool
 is_time word = list_all is_of_time word
 
--- words without those of a time before them
+-- words without the words of a time at the front
 abbrev pub without_times : List (List ℕ) → List (List ℕ)
 without_times [] = []
 without_times (word ∷ words) = if is_time word then without_times words else word ∷ words
 
--- the words of a line after its time, and none where a byte outside its comment may not stand there
+-- the words of a line after its time, or none if a byte outside its comment is invalid
 abbrev pub words_in : List ℕ → List (List ℕ)
 words_in raw = without_times (unwrap_or (words_of (without_return raw)) [])
 
--- words on a region of the first domain: `Domain0`, and a word that begins with `Region`
+-- words about a region of the first domain: `Domain0`, and a word that begins with `Region`
 abbrev pub is_region : List (List ℕ) → Bool
 is_region (domain ∷ region ∷ rest) = bytes_eq domain (codes "Domain0")
     && is_some (after_text region (codes "Region"))
 is_region _ = false
 
--- a line on a region of the first domain
+-- a line about a region of the first domain
 abbrev pub is_region_line : List ℕ → Bool
 is_region_line raw = is_region (words_in raw)
 
--- words on a register of the protection: the first begins with `pmp` or `mseccfg`, in upper or
--- lower case
+-- words about a PMP register: the first begins with `pmp` or `mseccfg`, ignoring case
 abbrev pub is_register : List (List ℕ) → Bool
 is_register [] = false
 is_register (name ∷ rest) = begins_with name (codes "pmp") || begins_with name (codes "mseccfg")
 
--- a number of a domain that is not the first
+-- the number of a domain other than the first
 abbrev pub is_later : Option ℕ → Bool
 is_later (Some n) = not (n == 0)
 is_later None = false
 
--- words on a region of another domain
+-- words about a region of another domain
 abbrev pub is_other_region : List (List ℕ) → Bool
 is_other_region (domain ∷ region ∷ rest) =
     is_later (option_and_then (numeral_of 10) (after_text domain (codes "Domain")))
     && is_some (after_text region (codes "Region"))
 is_other_region _ = false
 
--- a line that could be on a region: two of what a region's line has are in it
+-- a line that could be about a region, because it contains two features of such a line
 abbrev pub resembles_region : List ℕ → Bool
 resembles_region raw = (mentions raw (codes "Domain") && mentions raw (codes "Region"))
     || ((mentions raw (codes "Domain") || mentions raw (codes "Region"))
     && mentions raw (codes "-0x"))
 
--- how many entries the hart has, in words that say so
+-- the number of the hart's entries, if the words state it
 abbrev pub count_in : List (List ℕ) → Option (List ℕ)
 count_in (boot ∷ hart ∷ pmp ∷ count ∷ colon ∷ number ∷ rest) =
     if bytes_eq pmp (codes "PMP") && bytes_eq count (codes "Count") then Some number else None
 count_in _ = None
 
--- the same of a line
+-- the number of the hart's entries, if the line states it
 abbrev pub count_of : List ℕ → Option (List ℕ)
 count_of raw = count_in (words_in raw)
 
--- words about the hart that boots
+-- words about the boot hart
 abbrev pub is_of_hart : List (List ℕ) → Bool
 is_of_hart (boot ∷ hart ∷ rest) = bytes_eq boot (codes "Boot") && bytes_eq hart (codes "HART")
 is_of_hart _ = false
 
--- words about a domain: `DomainN` comes first
+-- words about a domain, beginning with `DomainN`
 abbrev pub is_of_domain : List (List ℕ) → Bool
 is_of_domain (domain ∷ rest) =
     is_some (option_and_then (numeral_of 10) (after_text domain (codes "Domain")))
 is_of_domain _ = false
 
--- a line that could say the domain of the hart that boots: two of its three words are in it, and
--- some of the third
+-- a line that could name the domain of the boot hart: it contains two of the three words, and part
+-- of the third
 abbrev pub resembles_hart : List ℕ → Bool
 resembles_hart raw = (mentions raw (codes "Domain")
     && (mentions raw (codes "Boot") || mentions raw (codes "HART")))
     || ((mentions raw (codes "Boot") && mentions raw (codes "HART"))
     && (mentions raw (codes "Dom") || mentions raw (codes "ain")))
 
--- a line that could be on a region, or on the hart that boots, and is not: it was damaged on its
--- way
+-- a line that resembles one about a region or the boot hart but is not one, because it was damaged
 abbrev pub is_damaged : List ℕ → Bool
 is_damaged raw = (resembles_region raw
     && not (is_region (words_in raw) || is_other_region (words_in raw)))
@@ -109,11 +107,11 @@ abbrev pub is_root : List (List ℕ) → Bool
 is_root (colon ∷ name ∷ []) = bytes_eq colon (codes ":") && bytes_eq name (codes "root")
 is_root _ = false
 
--- a word is `Domain`, or could be with a letter of it lost or another one
+-- a word that is `Domain`, possibly with a letter lost or changed
 abbrev pub resembles_domain : List ℕ → Bool
 resembles_domain word = mentions word (codes "Dom") || mentions word (codes "ain")
 
--- words of the hart that boots say its domain, and do not say that it is the first
+-- words about the boot hart that mention its domain, but do not name the first one
 abbrev pub is_elsewhere : List (List ℕ) → Bool
 is_elsewhere (boot ∷ hart ∷ domain ∷ rest) = resembles_domain domain
     && not (bytes_eq domain (codes "Domain") && is_root rest)
@@ -124,25 +122,25 @@ abbrev pub is_other_width : Xlen → List ℕ → Bool
 is_other_width Rv32 word = begins_with word (codes "rv64")
 is_other_width Rv64 word = begins_with word (codes "rv32")
 
--- words say that the hart that boots is none that these registers are of: it is in another domain,
--- or has another width
+-- words that state that the boot hart cannot have these registers: it is in another domain, or has
+-- another width
 abbrev pub is_another_hart : Xlen → List (List ℕ) → Bool
 is_another_hart xlen words = is_of_hart words
     && (is_elsewhere words || not (list_all (λ word. not (is_other_width xlen word)) words))
 
--- the number of a region, of `RegionNN`
+-- the number of a region, from `RegionNN`
 abbrev pub number_in : List ℕ → Option ℕ
 number_in region = option_and_then (numeral_of 10) (after_text region (codes "Region"))
 
--- how many bytes stand before the dash of `FIRST-LAST`
+-- the number of bytes before the dash of `FIRST-LAST`
 abbrev pub dash_at : List ℕ → ℕ
 dash_at word = position_or_len (λ b. b == 45) word
 
--- the block from a first to a last address, where both are numbers
+-- the block from a first to a last address, if both are numbers
 abbrev pub block_by : Xlen → Option ℕ → Option ℕ → Option (ℕ × ℕ)
 block_by xlen first last = option_and_then (λ f. option_and_then (block_from xlen f) last) first
 
--- an address that is padded with zeros to eight digits, as those of RV32 are, on a hart of RV64
+-- an address that is padded with zeros to eight digits, as on RV32, for a hart of RV64
 abbrev pub is_narrow : Xlen → List ℕ → Bool
 is_narrow Rv32 word = false
 is_narrow Rv64 word = length word == 10 && is_some (after_text word (codes "0x0"))
@@ -175,12 +173,12 @@ entry_at place perm block = if nat_lt place 64
       address = address_by block.0 block.1;
     }) else None
 
--- the entry of a number, a block and a permission, where each is one
+-- the entry with a number, a block and a permission, if all three are valid
 abbrev pub entry_by : Option ℕ → Option (ℕ × ℕ) → Option Perm → Option RegionEntry
 entry_by place block perm = option_and_then
     (λ n. option_and_then (λ b. option_and_then (λ p. entry_at n p b) perm) block) place
 
--- what the words of such a line set: `Domain0 RegionNN : FIRST-LAST (LETTERS)`, or with `M:
+-- the entry in the words of such a line: `Domain0 RegionNN : FIRST-LAST (LETTERS)`, or with `M:
 -- (LETTERS) S/U: (LETTERS)`
 abbrev pub entry_in : Xlen → List (List ℕ) → Option RegionEntry
 entry_in xlen (domain ∷ region ∷ colon ∷ block ∷ rest) =
@@ -188,17 +186,17 @@ entry_in xlen (domain ∷ region ∷ colon ∷ block ∷ rest) =
     (option_and_then perm_of (letters_in rest)) else None
 entry_in xlen _ = None
 
--- what words say: the entry of a region, or nothing; words on a register are not understood, nor
--- are those of another hart
+-- the meaning of words: the entry of a region, or nothing; words about a register or another hart
+-- are invalid
 abbrev pub said_by : Xlen → List (List ℕ) → Option (Option RegionEntry)
 said_by xlen words = if is_region words then option_map (λ e. Some e) (entry_in xlen words)
     else if is_register words || is_another_hart xlen words then None
     else Some None
 
--- what a line of a log of a hart of that width says, where it is understood
+-- the meaning of a valid line of a log, for a hart of this width
 abbrev pub log_says : Xlen → List ℕ → Option (Option RegionEntry)
 log_says xlen raw = if is_damaged raw then None else said_by xlen (words_in raw)
 
--- a text is a boot log where some line of it is on a region
+-- a text is a boot log if some line is about a region
 abbrev pub is_boot_log : List ℕ → Bool
 is_boot_log bytes = not (list_all (λ raw. not (is_region_line raw)) (raw_lines bytes))

@@ -19,7 +19,7 @@ use Rattle.register_audit.specs.Modes.{AreGiven}
 
 -- a text about extents, and whether it is a map: the lines of the map that they mean; or a line
 -- about the first bytes whose permission differs from that of their page's first byte; or, if there
--- are none, about an access that an entry cuts
+-- are no such bytes, about an access that an entry cuts
 pub data IsMapOfExtents (extents : List Extent) : List ℕ → Bool → Type 0 where
   mapped : (runs : List Run) → AreRuns runs → ExtentsMean extents (view_of_runs runs)
       → IsMapOfExtents extents (map_text runs) true
@@ -29,8 +29,8 @@ pub data IsMapOfExtents (extents : List Extent) : List ℕ → Bool → Type 0 w
   cut : (view : View) → HasFirstBytes extents view → (entry at : ℕ)
       → CutsAlone view extents entry at → (line : List ℕ) → IsMapOfExtents extents line false
 
--- a text about what a listing leaves: about what its registers give a mode, or a line that says why
--- they mean nothing
+-- a text about a listing: about the permissions that its registers grant a mode, or a line with the
+-- reason why they mean nothing
 pub data IsMapOf (mode : Mode) (listing : Listing) : List ℕ → Bool → Type 0 where
   told :
       unknown_bit listing.mseccfg ≡ None
@@ -39,12 +39,12 @@ pub data IsMapOf (mode : Mode) (listing : Listing) : List ℕ → Bool → Type 
       → IsMapOf mode listing text is_map
   refused : (line : List ℕ) → MeansNothing listing → IsMapOf mode listing line false
 
--- the first bytes of pages change too often under what a listing leaves
+-- the permissions of pages' first bytes change too often under the registers of a listing
 abbrev pub AreTooFine : Mode → Listing → Type 0
 AreTooFine mode listing = (given : List Extent) × AreGiven mode listing.registers given
     × IsTooFine given
 
--- such a text about what the listing of registers of that width leaves
+-- such a text about a listing of registers with this width
 pub record IsMapFile (mode : Mode) (xlen : Xlen) (listing text : List ℕ) (is_map : Bool) :
     Type 0 where
   pub leaves : Listing

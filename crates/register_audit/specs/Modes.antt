@@ -1,4 +1,5 @@
--- What the entries of registers give a mode, and what it is for registers to mean a view for it.
+-- The permissions that the entries of registers grant a mode, and the meaning of registers as a
+-- view for it.
 use Rattle.std.specs.Prelude.{◌≡◌, ℕ, ◌+◌, ◌/◌, ◌^◌, ◌<◌, ◌↔◌, true, List, [], ◌∷◌, ◌++◌}
 use Rattle.pmp_encoding.specs.declared.extent.Extent.{Extent}
 use Rattle.pmp_encoding.specs.declared.perm.Perm.{Perm}
@@ -21,26 +22,26 @@ with_perm x perm = record { base = x.base; end = x.end; perm = perm }
 abbrev pub everywhere : Xlen → Perm → Extent
 everywhere xlen perm = record { base = 0; end = space_end xlen; perm = perm }
 
--- what the entries from a place on match, with what they give a mode
+-- the entries from an index on, with the permissions that they grant a mode
 abbrev pub entries_from : Registers → Mode → ℕ → List Extent → List Extent
 entries_from registers mode place [] = []
 entries_from registers mode place (x ∷ extents) =
     with_perm x (perm_in registers mode place x)
     ∷ entries_from registers mode (place + 1) extents
 
--- what all of them give a mode, and after the last the whole space, with what the mode may do
--- where no entry matches
+-- all entries with the permissions that they grant a mode, followed by the whole space with the
+-- mode's default permission
 abbrev pub given_by : Registers → Mode → List Extent → List Extent
 given_by registers mode extents = entries_from registers mode 0 extents
     ++ everywhere registers.xlen (default_perm registers mode) ∷ []
 
--- what registers without a reserved value give a mode so
+-- the permissions that registers without a reserved value grant a mode
 abbrev pub AreGiven : Mode → Registers → List Extent → Type 0
 AreGiven mode registers given = (extents : List Extent) × AreExtents registers extents
     × (given ≡ given_by registers mode extents)
 
--- the registers have no reserved value, and by them the mode may make each aligned access at an
--- address that the hart has exactly where the view lets it; the view lets none be made elsewhere
+-- the registers have no reserved value, and they allow the mode each aligned access at an address
+-- of the hart iff the view does; the view allows no access elsewhere
 pub record MeanFor (mode : Mode) (registers : Registers) (view : View) : Type 0 where
   pub extents : List Extent
   pub are_extents : AreExtents registers extents

@@ -6,7 +6,7 @@ use Rattle.register_audit.specs.declared.listing.Listing.{Listing}
 use Rattle.register_audit.specs.SecurityBits.{unknown_bit}
 
 -- the registers of a listing mean nothing: an entry has a reserved value, or mseccfg has a bit that
--- no extension defines and that might change what the entries mean
+-- no extension defines and that might change the meaning of the entries
 pub data MeansNothing (leaves : Listing) : Type 0 where
   reserved : unknown_bit leaves.mseccfg ≡ None → (found : ReservedAt)
       → IsFirstReserved leaves.registers found → MeansNothing leaves

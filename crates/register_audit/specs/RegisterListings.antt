@@ -1,4 +1,4 @@
--- What a listing leaves.
+-- The result of reading a listing.
 use Rattle.std.specs.Prelude.{◌≡◌, if◌then◌else◌, ℕ, zero, suc, ◌+◌, ◌/◌, ◌%◌, List, [], ◌∷◌, ◌++◌}
 use Rattle.std.specs.Prelude.{length, replicate, slice_set, Option, Some, None, Bool, true, false}
 use Rattle.std.specs.Prelude.{◌==◌, ◌&&◌, ◌||◌, nat_lt, nat_le, not}
@@ -14,7 +14,7 @@ use Rattle.text_lines.specs.Lines.{raw_lines}
 use Rattle.register_audit.specs.LogLines.{is_boot_log}
 use Rattle.register_audit.specs.Lines.{log_sets, raw_sets}
 
--- registers of that width that are all zero, and no line that is passed over
+-- registers of this width that are all zero, and no ignored line
 abbrev pub nothing_set : Xlen → Listing
 nothing_set xlen = record {
   registers =
@@ -35,14 +35,14 @@ nothing_set xlen = record {
   is_set = false;
 }
 
--- the bytes of a number put in place, so many of them, the lowest first
+-- a list of bytes in which `count` bytes of a number are stored from an index on, the lowest first
 abbrev pub set_bytes : ℕ → ℕ → ℕ → List ℕ → List ℕ
 set_bytes place zero value bytes = bytes
 set_bytes place (suc count) value bytes =
     set_bytes (place + 1) count (value / 256) (slice_set bytes place (value % 256))
 
--- the registers of the protection after a setting: a configuration word has a byte of as many
--- entries as its width says, and of mseccfg the bits are kept that change what entries give
+-- the PMP registers after a setting: a configuration word sets a byte for each of its entries, and
+-- of mseccfg the bits that change the entries' permissions are kept
 abbrev pub registers_by : Registers → Setting → Registers
 registers_by registers (settings.Pair place cfg address) =
     record {
@@ -75,7 +75,7 @@ registers_by registers (settings.Security value) =
     }
 registers_by registers setting = registers
 
--- the first line that is passed over, where line n is one
+-- the first ignored line, given that line n is ignored
 abbrev pub first_of : Option ℕ → ℕ → Option ℕ
 first_of (Some first) n = Some first
 first_of None n = Some n
@@ -85,24 +85,24 @@ abbrev pub security_by : ℕ → Setting → ℕ
 security_by mseccfg (settings.Security value) = value
 security_by mseccfg setting = mseccfg
 
--- the first line that is passed over after that of line n
+-- the first ignored line after the setting of line n
 abbrev pub passed_by : Option ℕ → ℕ → Setting → Option ℕ
 passed_by passed n settings.Other = first_of passed n
 passed_by passed n (settings.Hart number) = first_of passed n
 passed_by passed n settings.Heading = first_of passed n
 passed_by passed n setting = passed
 
--- how many entries should be listed
+-- the stated number of pairs
 abbrev pub count_by : Option ℕ → Setting → Option ℕ
 count_by entries (settings.Count n) = Some n
 count_by entries setting = entries
 
--- how many lines set the pair of an entry
+-- the number of lines that set the pair of an entry
 abbrev pub pairs_by : ℕ → Setting → ℕ
 pairs_by pairs (settings.Pair place cfg address) = pairs + 1
 pairs_by pairs setting = pairs
 
--- a setting is about the protection
+-- a setting is about PMP
 abbrev pub is_of_pmp : Setting → Bool
 is_of_pmp settings.Nothing = false
 is_of_pmp settings.Other = false
@@ -121,12 +121,12 @@ abbrev pub hart_by : Option ℕ → Setting → Option ℕ
 hart_by hart (settings.Hart number) = Some number
 hart_by hart setting = hart
 
--- OpenOCD's heading has come after a setting
+-- OpenOCD's heading was read, after a setting
 abbrev pub headed_by : Bool → Setting → Bool
 headed_by headed settings.Heading = true
 headed_by headed setting = headed
 
--- how many entries the hart has, after a setting
+-- the number of the hart's entries after a setting
 abbrev pub limit_by : Option ℕ → Setting → Option ℕ
 limit_by limit (settings.Limit n) = Some n
 limit_by limit setting = limit
@@ -137,7 +137,7 @@ is_next None last place = true
 is_next (Some n) None place = true
 is_next (Some n) (Some last) place = place == last + 1
 
--- a hart of so many entries has this one
+-- a hart with this number of entries has the entry
 abbrev pub is_within : Option ℕ → ℕ → Bool
 is_within None place = true
 is_within (Some n) place = nat_lt place n
@@ -147,9 +147,9 @@ abbrev pub is_same_hart : Option ℕ → ℕ → Bool
 is_same_hart None number = true
 is_same_hart (Some first) number = first == number
 
--- a setting agrees with the lines before it: a count comes before what it counts, the entries of a
--- counted list rise by one, a log has no more regions than the hart has entries, and all lines are
--- of one hart
+-- a setting agrees with the lines before it: a number of pairs comes before them, the entries of a
+-- counted list are consecutive, a log has no more regions than the hart has entries, and all lines
+-- are about one hart
 abbrev pub agrees : Listing → Setting → Bool
 agrees listing (settings.Count n) = listing.pairs == 0
 agrees listing (settings.Pair place cfg address) = is_next listing.entries listing.last place
@@ -163,7 +163,7 @@ agrees listing setting = true
 abbrev pub agreed : Listing → Setting → Option Setting
 agreed listing setting = if agrees listing setting then Some setting else None
 
--- what the listing says after the setting of line n
+-- the listing after the setting of line n
 abbrev pub set_by : Listing → ℕ → Setting → Listing
 set_by listing n setting = record {
   registers = registers_by listing.registers setting;
@@ -178,7 +178,7 @@ set_by listing n setting = record {
   is_set = listing.is_set || is_of_pmp setting;
 }
 
--- what it says after lines from number n on, each of which is understood after those before it
+-- the listing after lines from number n on, each of which is valid after those before it
 abbrev pub set_by_lines : (Listing → List ℕ → Option Setting) → Listing → ℕ → List (List ℕ)
     → Option Listing
 set_by_lines sets listing n [] = Some listing
@@ -186,11 +186,11 @@ set_by_lines sets listing n (raw ∷ raws) =
     option_and_then (λ setting. set_by_lines sets (set_by listing n setting) (n + 1) raws)
     (sets listing raw)
 
--- what the lines of a text leave, where all are understood
+-- the result of reading the lines of a text, if all are valid
 abbrev pub listed_by : Xlen → (Listing → List ℕ → Option Setting) → List ℕ → Option Listing
 listed_by xlen sets bytes = set_by_lines sets (nothing_set xlen) 1 (raw_lines bytes)
 
--- line n of a text is not understood, and those before it are
+-- line n of a text is invalid, and those before it are valid
 pub record IsFirstUnknownBy (xlen : Xlen) (sets : Listing → List ℕ
     → Option Setting) (bytes : List ℕ) (n : ℕ) : Type 0 where
   pub before : List (List ℕ)
@@ -202,38 +202,39 @@ pub record IsFirstUnknownBy (xlen : Xlen) (sets : Listing → List ℕ
   pub understood : set_by_lines sets (nothing_set xlen) 1 before ≡ Some listing
   pub unknown : sets listing raw ≡ None
 
--- what a line of registers sets, if it agrees with the lines before it
+-- the setting of a line of registers, if it agrees with the lines before it
 abbrev pub sets_alone : Xlen → Listing → List ℕ → Option Setting
 sets_alone xlen listing raw = option_and_then (agreed listing) (raw_sets xlen raw)
 
--- what a line of a boot log sets: a region the entry of its number, which is the next one
+-- the setting of a line of a boot log: a region sets the entry with its number, which must be the
+-- next one
 abbrev pub sets_next : Xlen → Listing → List ℕ → Option Setting
 sets_next xlen listing raw = option_and_then (agreed listing) (log_sets xlen listing.pairs raw)
 
--- what a line sets: by the regions of a boot log, or as a line of registers
+-- the setting of a line, as a line of a boot log or of registers
 abbrev pub sets_in : Xlen → List ℕ → Listing → List ℕ → Option Setting
 sets_in xlen bytes = if is_boot_log bytes then sets_next xlen else sets_alone xlen
 
--- as many pairs are listed as a count says
+-- the number of pairs is the stated one
 abbrev pub has_all : Option ℕ → ℕ → Bool
 has_all None pairs = true
 has_all (Some n) pairs = pairs == n
 
--- a listing is whole: some line is about the protection, and each entry is there that is counted
+-- a listing is complete: some line is about PMP, and the number of pairs is the stated one
 abbrev pub is_whole : Listing → Bool
 is_whole listing = listing.is_set && has_all listing.entries listing.pairs
 
--- such a listing, and otherwise none
+-- a listing if it is complete, otherwise `None`
 abbrev pub whole : Listing → Option Listing
 whole listing = if is_whole listing then Some listing else None
 
--- what the lines of a listing of registers of that width leave, where all are understood and it is
--- whole
+-- the result of reading a listing of registers with this width, if all lines are valid and it is
+-- complete
 abbrev pub listed : Xlen → List ℕ → Option Listing
 listed xlen bytes = option_and_then whole (listed_by xlen (sets_in xlen bytes) bytes)
 
--- line n of such a listing is not understood, and those before it are; or all are, and it ends
--- before line n, where it should not
+-- line n of such a listing is the first invalid one; or all lines are valid, but the incomplete
+-- listing ends before line n
 pub data IsFirstUnknown (xlen : Xlen) (bytes : List ℕ) (n : ℕ) : Type 0 where
   line : IsFirstUnknownBy xlen (sets_in xlen bytes) bytes n → IsFirstUnknown xlen bytes n
   end : (leaves : Listing) → listed_by xlen (sets_in xlen bytes) bytes ≡ Some leaves

@@ -1,4 +1,4 @@
--- Which bits of `mseccfg` are about PMP. (RISC-V Privileged Architecture, Machine Security
+-- Classification of the bits of `mseccfg`. (RISC-V Privileged Architecture, Machine Security
 -- Configuration Register)
 use Rattle.std.specs.Prelude.{ℕ, zero, suc, ◌+◌, ◌/◌, ◌%◌, ◌^◌, ◌==◌, ◌&&◌, ◌||◌, Bool, not, nat_lt}
 use Rattle.std.specs.Prelude.{Option, Some, None, if◌then◌else◌}
@@ -14,29 +14,29 @@ is_of_smepmp bit = nat_lt bit 3
 abbrev pub is_foreign_bit : ℕ → Bool
 is_foreign_bit bit = (bit == 8 || bit == 9) || (bit == 10 || (bit == 32 || bit == 33))
 
--- the bit is of that sort: unknown where it is none of these
+-- the bit is of this class: unknown if it is not one of these
 abbrev pub is_of_sort : BitSort → ℕ → Bool
 is_of_sort Foreign bit = is_foreign_bit bit
 is_of_sort Unknown bit = not (is_of_smepmp bit || is_foreign_bit bit)
 
--- the bit of a value is 1, and of that sort
+-- the bit of a value is 1 and of this class
 abbrev pub has_bit : BitSort → ℕ → ℕ → Bool
 has_bit sort value bit = value / 2 ^ bit % 2 == 1 && is_of_sort sort bit
 
--- the lowest such bit of a value, of so many from a bit on
+-- the lowest such bit of a value among `count` bits from a bit on
 abbrev pub lowest_from : BitSort → ℕ → ℕ → ℕ → Option ℕ
 lowest_from sort value bit zero = None
 lowest_from sort value bit (suc count) =
     if has_bit sort value bit then Some bit else lowest_from sort value (bit + 1) count
 
--- that of a register of 64 bits
+-- the lowest such bit of a 64-bit register
 abbrev pub lowest_bit : BitSort → ℕ → Option ℕ
 lowest_bit sort value = lowest_from sort value 0 64
 
--- the lowest bit of `mseccfg` that no extension gives, where there is one
+-- the lowest bit of `mseccfg` that no extension defines, if there is one
 abbrev pub unknown_bit : ℕ → Option ℕ
 unknown_bit mseccfg = lowest_bit Unknown mseccfg
 
--- the lowest one that is not about PMP
+-- the lowest bit of `mseccfg` that is not about PMP
 abbrev pub foreign_bit : ℕ → Option ℕ
 foreign_bit mseccfg = lowest_bit Foreign mseccfg

@@ -1,4 +1,4 @@
-//! Rules as what the accesses of a trace are judged by.
+//! Judges the accesses of a trace by rules.
 
 use crate::rules::Rules;
 use hart_trace::AccessJudge;

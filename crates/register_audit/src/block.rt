@@ -1,4 +1,4 @@
-//! The block of a region.
+//! The block of addresses of a region.
 
 ghost use Rattle.std.specs.Prelude.{◌≡◌, ◌≢◌, ℕ, ◌+◌, ◌-◌, ◌^◌, ◌<◌, ◌≤◌, IfNone, IfSome, option_map, nat_le, false};
 ghost use Rattle.pmp_encoding.specs.Block.{IsBlock};
@@ -15,7 +15,7 @@ fn power(log2: u32) -> u64
     1 << log2
 }
 
-/// The first exponent from 2 to before the end of which that is the size.
+/// Returns the exponent of a size that is a power of two, from 2 up to before `end`.
 fn exponent_below(end: u32, size: u64) -> Option<u32>
     requires least { 2 ≤ end }
     requires most { end ≤ 57 }
@@ -31,7 +31,7 @@ fn exponent_below(end: u32, size: u64) -> Option<u32>
     None
 }
 
-/// The exponent of a size that is a power of two, from four bytes to the whole space.
+/// Returns the exponent of a size that is a power of two, from four bytes to the whole space.
 fn exponent_of(size: u64) -> Option<u32>
     ensures value { result ≡ exponent_of size }
     ensures some { IfSome result (λ log2. IsExponentBelow 57 size log2) }
@@ -40,7 +40,7 @@ fn exponent_of(size: u64) -> Option<u32>
     exponent_below(57, size)
 }
 
-/// The highest number that a register holds.
+/// Returns the highest number that a register holds.
 fn highest(xlen: Xlen) -> u64
     ensures { result ≡ 2 ^ xlen_bits xlen - 1 }
 {
@@ -56,7 +56,7 @@ fn is_all(xlen: Xlen, first: u64, last: u64) -> bool
     first == 0 && (last == highest(xlen) || last == u64::MAX)
 }
 
-/// The exponent of the space.
+/// Returns the exponent of the size of the space.
 fn space_log2(xlen: Xlen) -> u32
     ensures value { result ≡ space_log2 xlen }
     ensures most { result ≤ 56 }
@@ -67,7 +67,7 @@ fn space_log2(xlen: Xlen) -> u32
     }
 }
 
-/// The number of bytes from a first to a last address.
+/// Returns the number of bytes from a first to a last address.
 fn size_of(first: u64, last: u64) -> Option<u64>
     requires { (x : Xlen) × (is_all x first last ≡ false) }
     ensures some { IfSome result (λ size. first + size ≡ last + 1) }
@@ -77,7 +77,7 @@ fn size_of(first: u64, last: u64) -> Option<u64>
     span.checked_add(1)
 }
 
-/// Whether a block ends in the space.
+/// Returns whether a block ends in the space.
 fn is_inside(xlen: Xlen, base: u64, log2: u32) -> bool
     requires base { base < 2 ^ 56 }
     requires most { log2 ≤ 56 }
@@ -86,7 +86,7 @@ fn is_inside(xlen: Xlen, base: u64, log2: u32) -> bool
     base + power(log2) <= xlen.space_end()
 }
 
-/// A block by its base and its exponent.
+/// Returns the block with a base and an exponent.
 fn block_at(xlen: Xlen, base: u64, log2: u32) -> Option<Region>
     requires least { 2 ≤ log2 }
     requires most { log2 ≤ 56 }
@@ -102,8 +102,8 @@ fn block_at(xlen: Xlen, base: u64, log2: u32) -> Option<Region>
     }
 }
 
-/// The block from a first to a last address, inside the space. To the highest number of a register, or to 2^64 - 1, it is the
-/// whole space, as OpenSBI writes that.
+/// Returns the block from a first to a last address, inside the space. If the last address is the highest number of a
+/// register, or 2^64 - 1, it is the whole space, in OpenSBI's notation.
 #[tactic(auto, using(crate::proofs::Exponents::none_before))]
 pub fn block_from(xlen: Xlen, first: u64, last: u64) -> Option<Region>
     ensures value { option_map (λ r. (r.base, r.log2)) result ≡ block_from xlen first last }

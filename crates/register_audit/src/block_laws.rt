@@ -1,4 +1,4 @@
-//! What the pair of a region means.
+//! A law of the register pair of a region.
 
 ghost use Rattle.pmp_encoding.specs.declared.region.Entry.{Entry};
 ghost use Rattle.pmp_encoding.specs.Encoding.{MeansEntry};
@@ -6,7 +6,7 @@ ghost use Rattle.register_audit.specs.Blocks.{address_by, cfg_by};
 
 use pmp_encoding::pair_law;
 
-/// The pair of a block and a permission means the entry of both.
+/// The pair of a block and a permission means the entry with both.
 pub fn region_law()
     ensures { (e : Entry)
         → MeansEntry (cfg_by e.region.log2 e.perm) (address_by e.region.base e.region.log2) e }

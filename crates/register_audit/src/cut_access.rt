@@ -25,7 +25,7 @@ fn can_read(perm: Perm) -> bool
     !matches!(perm, Perm::NoAccess | Perm::Execute)
 }
 
-/// Whether the extent has some of the eight bytes.
+/// Returns whether the extent contains some of the eight bytes.
 fn has_some(extent: &Extent, at: u64) -> bool
     requires words { IsWords extent.now }
     requires at { at < 2 ^ 56 }
@@ -34,7 +34,7 @@ fn has_some(extent: &Extent, at: u64) -> bool
     extent.base < at + 8 && at < extent.end
 }
 
-/// Whether none of the extents has one of the eight bytes.
+/// Returns whether the extents contain none of the eight bytes.
 fn all_miss(extents: &[Extent], at: u64) -> bool
     requires words { All IsWords extents.now }
     requires at { at < 2 ^ 56 }
@@ -48,7 +48,7 @@ fn all_miss(extents: &[Extent], at: u64) -> bool
     true
 }
 
-/// Whether entry i is the first that has some of the eight bytes.
+/// Returns whether entry i is the first that contains some of the eight bytes.
 fn is_first(extents: &[Extent], i: usize, at: u64) -> bool
     requires words { All IsWords extents.now }
     requires i { i < length extents.now }
@@ -59,7 +59,7 @@ fn is_first(extents: &[Extent], i: usize, at: u64) -> bool
     all_miss(&extents[..i], at) && has_some(&extents[i], at)
 }
 
-/// The eight aligned bytes with an end of entry i in their middle, where it cuts them.
+/// Returns the eight aligned bytes with an end of entry i in their middle, if the entry cuts them.
 fn cut_at(map: &PermissionMap, extents: &[Extent], i: usize, end: u64) -> Option<u64>
     requires words { All IsWords extents.now }
     requires i { i < length extents.now }
@@ -85,7 +85,7 @@ fn cut_at(map: &PermissionMap, extents: &[Extent], i: usize, end: u64) -> Option
     }
 }
 
-/// The lowest eight bytes that entry i cuts.
+/// Returns the lowest eight bytes that entry i cuts.
 fn cut_by(map: &PermissionMap, extents: &[Extent], i: usize) -> Option<u64>
     requires words { All IsWords extents.now }
     requires i { i < length extents.now }
@@ -101,7 +101,7 @@ fn cut_by(map: &PermissionMap, extents: &[Extent], i: usize) -> Option<u64>
     Some(high)
 }
 
-/// The first entry by which the extents cut an access that the map lets through, and the lowest of those.
+/// Returns the first entry that cuts an access allowed by the map, and the lowest such access.
 pub(crate) fn first_cut(map: &PermissionMap, extents: &[Extent]) -> Option<Cut>
     requires { All IsWords extents.now }
     ensures { MatchOption result ((i : ℕ) → IsUncut (view_of_runs map.now) extents.now i)

@@ -1,4 +1,4 @@
-//! What registers say of an access.
+//! Decides accesses by registers.
 
 ghost use Rattle.std.specs.Prelude.{◌≡◌, ◌^◌, ◌<◌, ◌↔◌, IsTrue};
 ghost use Rattle.pmp_match.specs.RegisterDecision.{ContainsAll};
@@ -10,7 +10,7 @@ use crate::extents::{contains, meets};
 use pmp_encoding::Perm;
 use pmp_match::{Access, Decider, Extent, Mode, Registers, holds, machine_default, machine_perm};
 
-/// What the entry of a place, which matches these addresses, gives a mode.
+/// Returns the permission that the entry at an index, which matches these addresses, grants a mode.
 pub(crate) fn perm_in(registers: &Registers, mode: Mode, place: usize, extent: &Extent) -> Perm
     requires { place < 64 }
     ensures { result ≡ perm_in registers.now mode place extent.now }
@@ -21,7 +21,7 @@ pub(crate) fn perm_in(registers: &Registers, mode: Mode, place: usize, extent: &
     }
 }
 
-/// What a mode may do where no entry has a byte of an access.
+/// Returns the permission of a mode if no entry contains a byte of an access.
 pub(crate) fn default_perm(registers: &Registers, mode: Mode) -> Perm
     ensures { result ≡ default_perm registers.now mode }
 {
@@ -31,7 +31,7 @@ pub(crate) fn default_perm(registers: &Registers, mode: Mode) -> Perm
     }
 }
 
-/// Whether the entry of a place, which matches these addresses, lets the access through.
+/// Returns whether the entry at an index, which matches these addresses, permits the access.
 fn lets_through(registers: &Registers, place: usize, extent: &Extent, access: &Access) -> bool
     requires { place < 64 }
     ensures { IsTrue result ↔ LetsThrough registers.now access.now place extent.now }
@@ -39,7 +39,7 @@ fn lets_through(registers: &Registers, place: usize, extent: &Extent, access: &A
     holds(perm_in(registers, access.mode, place, extent), access.kind)
 }
 
-/// Whether the entry of a place, if it decides the access, says yes.
+/// Returns whether the entry at an index grants the access, if it decides the access.
 fn grants(registers: &Registers, place: usize, extent: &Extent, access: &Access) -> bool
     requires place { place < 64 }
     requires inside { access.now.address < 2 ^ 56 }
@@ -49,7 +49,7 @@ fn grants(registers: &Registers, place: usize, extent: &Extent, access: &Access)
     contains(extent, access) && lets_through(registers, place, extent, access)
 }
 
-/// Whether registers, whose entries match these addresses, say yes.
+/// Returns whether registers, whose entries match these addresses, allow the access.
 pub(crate) fn allow(registers: &Registers, extents: &[Extent; 64], access: &Access) -> bool
     requires extents { AreExtents registers.now extents.now }
     requires inside { access.now.address < 2 ^ 56 }
@@ -64,7 +64,7 @@ pub(crate) fn allow(registers: &Registers, extents: &[Extent; 64], access: &Acce
     holds(default_perm(registers, access.mode), access.kind)
 }
 
-/// The first entry by number that has a byte of the access, where there is one.
+/// Returns the first entry by number that contains a byte of the access, if there is one.
 pub(crate) fn first_met(
     registers: &Registers,
     extents: &[Extent; 64],

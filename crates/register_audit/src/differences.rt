@@ -1,4 +1,4 @@
-//! Each stretch on which registers give another permission than a map.
+//! The stretches on which the permissions of registers and a map differ.
 
 ghost use Rattle.std.specs.Prelude.{◌≡◌, ◌≢◌, ◌++◌, ℕ, IfOk, List, false, true};
 ghost use Rattle.permission_map.specs.Runs.{view_of_runs};
@@ -14,7 +14,7 @@ use permission_map::{Memory, PermissionMap};
 use pmp_match::{Mode, Registers, extents_of};
 use std::alloc::Global;
 
-/// Returns those of these stretches on which a map and registers differ, in their order.
+/// Returns the stretches on which a map and registers differ, in their order.
 fn odd_among(alloc: Global, all: &[Stretch]) -> Result<Vec<Stretch>, Memory>
     ensures { IfOk result (λ odd. AreOdd all.now odd.items) }
 {
@@ -27,8 +27,8 @@ fn odd_among(alloc: Global, all: &[Stretch]) -> Result<Vec<Stretch>, Memory>
     Ok(odd)
 }
 
-/// Returns each stretch on which registers without a reserved value give a mode another permission than the map. The only error
-/// is out of memory.
+/// Returns each stretch on which registers without a reserved value give a mode another permission than the map. The
+/// only error is a failed allocation.
 pub(crate) fn differences_of(
     alloc: Global,
     mode: Mode,

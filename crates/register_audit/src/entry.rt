@@ -1,6 +1,6 @@
 //! The entry of a region.
 
-/// What the line of a region sets: the pair of the entry of its number.
+/// The pair that the line of a region sets, with the number of its entry.
 #[derive(Clone, Copy)]
 pub struct RegionEntry {
     /// The number of the entry, below 64.

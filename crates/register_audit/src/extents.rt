@@ -5,7 +5,7 @@ ghost use Rattle.pmp_match.specs.RegisterDecision.{ContainsAll, IsWords, Meets};
 
 use pmp_match::{Access, Extent};
 
-/// Whether the extent has some byte of the access.
+/// Returns whether the extent contains some byte of the access.
 pub(crate) fn meets(extent: &Extent, access: &Access) -> bool
     requires words { IsWords extent.now }
     requires inside { access.now.address < 2 ^ 56 }
@@ -14,7 +14,7 @@ pub(crate) fn meets(extent: &Extent, access: &Access) -> bool
     extent.base < access.address + u64::from(access.size) && access.address < extent.end
 }
 
-/// Whether the extent has each byte of the access.
+/// Returns whether the extent contains each byte of the access.
 pub(crate) fn contains(extent: &Extent, access: &Access) -> bool
     requires { access.now.address < 2 ^ 56 }
     ensures { IsTrue result ↔ ContainsAll extent.now access.now }

@@ -1,33 +1,33 @@
-//! Why a question about a listing has no answer.
+//! Errors of tasks on a listing.
 
 use std::alloc::AllocError;
 
-/// Why a question about a listing has no answer.
+/// The reason why a task on a listing failed.
 #[derive(Clone, Copy, PartialEq, Eq, Debug)]
 pub enum ListingFault {
-    /// The line of this number, from 1, is not understood.
+    /// The line with this number, from 1, is invalid.
     Line(u64),
-    /// Memory was refused.
+    /// An allocation failed.
     Memory,
-    /// The device failed, or took none of some bytes.
+    /// The device failed, or accepted no bytes.
     Device,
 }
 
-/// Why there is no map of a listing.
+/// The reason why a listing gives no map.
 #[derive(Clone, Copy, Debug)]
 pub enum MapOfFault {
-    /// There would be no answer to any question.
+    /// The listing itself is at fault.
     Listing(ListingFault),
     /// The map would have more than 4096 ranges.
     TooManyRanges,
 }
 
-/// Why there is no map of registers.
+/// The reason why registers give no map.
 #[derive(Clone, Copy)]
 pub(crate) enum NoMapReason {
     /// The map would have more than 4096 ranges.
     TooManyRanges,
-    /// Memory was refused.
+    /// An allocation failed.
     Memory,
 }
 

@@ -11,7 +11,7 @@ use permission_map::{Memory, PermissionMap};
 use pmp_match::Extent;
 use std::alloc::Global;
 
-/// Whether extents mean a map, and where they do not.
+/// The result of comparing extents with a map.
 #[derive(Clone, Copy)]
 pub enum Finding {
     /// They mean the map.
@@ -20,7 +20,7 @@ pub enum Finding {
     Differs(Stretch),
     /// They give each byte the map's permission, but cut an access that the map lets through.
     Cuts {
-        /// The number of the first entry by which one is cut.
+        /// The number of the first entry that cuts one.
         entry: usize,
         /// The lowest byte of the lowest eight that it cuts.
         at: u64,
@@ -34,7 +34,7 @@ pub(crate) fn is_odd(stretch: &Stretch) -> bool
     stretch.wanted != stretch.given
 }
 
-/// The first stretch on which the extents give another permission than the map.
+/// Returns the first stretch on which the extents give another permission than the map.
 fn first_odd(all: &[Stretch]) -> Option<Stretch>
     ensures { MatchOption result (All agrees all.now) (IsFirstOdd all.now) }
 {
@@ -46,7 +46,7 @@ fn first_odd(all: &[Stretch]) -> Option<Stretch>
     None
 }
 
-/// Whether extents mean the map, or where they do not. The only error is out of memory.
+/// Compares extents with a map. The only error is a failed allocation.
 pub fn compare(alloc: Global, map: &PermissionMap, extents: &[Extent]) -> Result<Finding, Memory>
     requires { All IsWords extents.now }
     ensures { IfOk result (IsFinding (view_of_runs map.now) extents.now) }

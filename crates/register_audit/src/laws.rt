@@ -1,4 +1,4 @@
-//! What registers say, against lists and against extents.
+//! Laws that relate the judgement of registers to lists and to extents.
 
 ghost use Rattle.std.specs.Prelude.{◌≡◌, ◌≢◌, ◌↔◌, List, Result};
 ghost use Rattle.pmp_encoding.specs.declared.extent.Extent.{Extent};
@@ -20,9 +20,9 @@ ghost use Rattle.register_audit.specs.Modes.{MeanFor};
 ghost use Rattle.pmp_encoding.specs.Views.{View};
 ghost use Rattle.pmp_match.specs.declared.access.Mode.{Mode};
 
-/// Registers that hold a list of NA4 and NAPOT entries judge each access as the list does, where the hart's address registers
-/// reach it: of supervisor and user mode whatever `mseccfg` is, and of machine mode where MML and MMWP are 0. Such a list has no
-/// locked entry.
+/// Registers that contain a list of NA4 and NAPOT entries judge each access as the list does, if the hart's address
+/// registers reach it: for supervisor and user mode with any `mseccfg`, and for machine mode if MML and MMWP are 0.
+/// Such a list has no locked entry.
 pub fn list_law()
     ensures { (registers : Registers) (entries : List Entry)
         → MeansList (pairs_of registers) entries → AreReached registers.xlen entries
@@ -31,14 +31,14 @@ pub fn list_law()
         → RegistersJudge registers a answer ↔ Judges entries a answer }
 {}
 
-/// Supervisor and user mode may do what the extents of the registers let them do.
+/// Supervisor and user mode may do exactly what the extents of the registers permit.
 pub fn permits_law()
     ensures { (registers : Registers) (xs : List Extent) → AreExtents registers xs
         → (a : Access) → a.mode ≢ Machine
         → RegistersAllow registers a ↔ Permits xs a }
 {}
 
-/// For supervisor and user mode registers mean a view exactly where their extents mean it.
+/// For supervisor and user mode registers mean a view iff their extents do.
 pub fn mean_law()
     ensures { (mode : Mode) (registers : Registers) (view : View) → mode ≢ Machine
         → MeanFor mode registers view ↔ RegistersMean registers view }

@@ -6,7 +6,7 @@ ghost use Rattle.register_audit.specs.Letters.{are_letters, before_end, has_lett
 use pmp_encoding::Perm;
 use text_lines::{after_text, is_text, len_before};
 
-/// What comes before a closing parenthesis at the end.
+/// Returns the text before a final closing parenthesis.
 fn before_end(text: &[u8]) -> Option<&[u8]>
     ensures { option_map (λ rest. rest.now) result ≡ before_end text.now }
 {
@@ -18,14 +18,14 @@ fn before_end(text: &[u8]) -> Option<&[u8]>
     }
 }
 
-/// Whether a byte is a letter of a region.
+/// Returns whether a byte is a letter of a region.
 fn is_letter(byte: u8) -> bool
     ensures { result ≡ is_letter byte }
 {
     matches!(byte, b'F' | b'I' | b'M' | b'R' | b'W' | b'X')
 }
 
-/// Whether a text is letters with a comma between each two, or none. Where a log lost a byte it is not.
+/// Returns whether a text is empty or consists of letters separated by commas. It is not if the log lost a byte.
 fn are_letters(text: &[u8]) -> bool
     ensures { result ≡ are_letters text.now }
 {
@@ -37,7 +37,7 @@ fn are_letters(text: &[u8]) -> bool
     }
 }
 
-/// The letters in parentheses.
+/// Returns the letters in parentheses.
 fn letters_of(word: &[u8]) -> Option<&[u8]>
     ensures { option_map (λ rest. rest.now) result ≡ letters_of word.now }
 {
@@ -56,7 +56,7 @@ fn has_letter(letter: u8, letters: &[u8]) -> bool
     len_before(letter, letters) < letters.len()
 }
 
-/// The permission to read, write and execute or not. W without R is reserved.
+/// Returns the permission with these accesses. W without R is reserved.
 fn perm_by(reads: bool, writes: bool, executes: bool) -> Option<Perm>
     ensures { result ≡ perm_by reads writes executes }
 {
@@ -71,7 +71,7 @@ fn perm_by(reads: bool, writes: bool, executes: bool) -> Option<Perm>
     }
 }
 
-/// The permission that a word of letters says.
+/// Parses the permission of a word of letters.
 pub(crate) fn perm_of(word: &[u8]) -> Option<Perm>
     ensures { result ≡ perm_of word.now }
 {

@@ -1,21 +1,26 @@
-//! Listings of PMP registers as text, and what the registers mean: whether they are a given map, as a table, as a map of their own, and
-//! access by access.
+//! Reads listings of PMP registers, and audits them against a map, converts them to tables and maps, and judges
+//! accesses by them.
 //!
-//! - [`listing_of`] reads a listing as `plan`, gdb or OpenOCD prints it, or OpenSBI's boot log. Each line sets registers, or is passed over
-//!   because it cannot be about PMP; the first other line ends the listing. A log's regions of `Domain0` set entries ([`log_says`]).
-//! - [`audit`] writes whether the registers mean a map, or the first stretch that differs, or the first access that an entry cuts, or the
-//!   first entry with a reserved value. [`verdict_of`] returns this as a value, [`compare`] compares a list of extents.
-//! - [`print_registers`] writes the table of what the registers give, and [`print_map_of`] the map that they mean, if whole pages do.
-//! - [`Rules::judge`] judges an access of any mode by any registers: the first entry that matches a byte of the access decides; it must
-//!   match all bytes, and its permission must hold the kind of access. Machine mode needs the permission only if the entry is locked. If no
-//!   entry matches, machine mode may do anything and the other modes nothing. (RISC-V Privileged Architecture, Physical Memory Protection)
-//!   Registers that hold a list of NA4 and NAPOT entries judge as the list does ([`list_law`]).
+//! - [`listing_of`] reads a listing in the format of `plan`, gdb, OpenOCD or OpenSBI's boot log. Each line sets
+//!   registers, or is ignored because it cannot be about PMP; the first other line ends the listing. In a log the
+//!   regions of `Domain0` set entries ([`log_says`]).
+//! - [`audit`] writes whether the registers mean a map, or the first stretch that differs, or the first access that an
+//!   entry cuts, or the first entry with a reserved value. [`verdict_of`] returns this as a value, and [`compare`] does
+//!   the same for a list of extents. [`fewest_with_chain`] counts the entries that are enough with TOR.
+//! - [`print_registers`] writes the table of the registers' permissions, and [`print_map_of`] the map that they mean,
+//!   if a map of whole pages exists.
+//! - [`Rules::judge`] judges an access of any mode by any registers: the first entry that matches a byte of the access
+//!   decides; it must match all bytes, and its permission must include the kind of access. Machine mode needs the
+//!   permission only if the entry is locked. If no entry matches, machine mode may do anything and the other modes
+//!   nothing. (RISC-V Privileged Architecture, Physical Memory Protection) Registers that contain a list of NA4 and
+//!   NAPOT entries judge as the list does ([`list_law`]).
 //!
-//! Registers with a reserved value, or with a bit of `mseccfg` that no extension defines, mean nothing; each of these calls says so.
+//! Registers with a reserved value, or with a bit of `mseccfg` that no extension defines, mean nothing; each of these
+//! calls reports this.
 //!
 //! ```rust
 //! let means = audit(alloc, &map, 3, Mode::User, Xlen::Rv64, listing, false, &mut out)?;
-//! // means the map: 5 entries where 3 are enough
+//! // means the map: 5 entries; fewest NA4/NAPOT entries: 3
 //! ```
 #![tactic(auto)]
 
@@ -28,6 +33,7 @@ mod differences;
 mod entry;
 mod extents;
 mod fault;
+mod fewest;
 mod finding;
 mod laws;
 mod letters;
@@ -56,6 +62,7 @@ pub use block::block_from;
 pub use block_laws::region_law;
 pub use entry::RegionEntry;
 pub use fault::{ListingFault, MapOfFault};
+pub use fewest::fewest_with_chain;
 pub use finding::{Finding, compare};
 pub use laws::{list_law, mean_law, permits_law};
 pub use lines::{is_boot_log, log_says};

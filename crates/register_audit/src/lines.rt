@@ -1,4 +1,4 @@
-//! What the lines of a boot log say.
+//! Parses the lines of a boot log.
 
 ghost use Rattle.std.specs.Prelude.{◌≡◌, ◌<◌, IfOk, IfSome, option_map, not, codes};
 ghost use Rattle.std.specs.List.{list_all};
@@ -20,7 +20,7 @@ use text_lines::{
     split_line, without_return,
 };
 
-/// The words of a line, and none where a byte outside its comment is not allowed there.
+/// Returns the words of a line, or none if a byte outside its comment is invalid.
 fn words_in(raw: &[u8]) -> Words<'_>
     ensures { split_words result.rest.now ≡ words_in raw.now }
 {
@@ -30,21 +30,21 @@ fn words_in(raw: &[u8]) -> Words<'_>
     }
 }
 
-/// Whether a byte can be one of a time.
+/// Returns whether a byte can be part of a time.
 fn is_of_time(b: u8) -> bool
     ensures { result ≡ is_of_time b }
 {
     ((b >= 40 && b <= 58) && b != 42) || (b == 91 || b == 93)
 }
 
-/// Whether a word is one of a time.
+/// Returns whether a word can be part of a time.
 fn is_time(word: &[u8]) -> bool
     ensures { result ≡ is_time word.now }
 {
     word.iter().all(|b| is_of_time(*b))
 }
 
-/// Words without those of a time before them.
+/// Skips the words of a time.
 fn without_times(words: Words<'_>) -> Words<'_>
     ensures { split_words result.rest.now ≡ without_times (split_words words.entry.rest.now) }
 {
@@ -59,7 +59,7 @@ fn without_times(words: Words<'_>) -> Words<'_>
     left
 }
 
-/// Whether words are on a region of the first domain.
+/// Returns whether words describe a region of the first domain.
 fn is_region(mut words: Words<'_>) -> bool
     ensures { result ≡ is_region (split_words words.entry.rest.now) }
 {
@@ -72,7 +72,7 @@ fn is_region(mut words: Words<'_>) -> bool
     is_text(domain, b"Domain0") && after_text(region, b"Region").is_some()
 }
 
-/// Whether words are on a register of the protection.
+/// Returns whether words describe a PMP register.
 fn is_register(mut words: Words<'_>) -> bool
     ensures { result ≡ is_register (split_words words.entry.rest.now) }
 {
@@ -82,7 +82,7 @@ fn is_register(mut words: Words<'_>) -> bool
     }
 }
 
-/// Whether a word names a domain that is not the first.
+/// Returns whether a word names a domain other than the first.
 fn is_later_domain(word: &[u8]) -> bool
     ensures { result ≡ is_later (option_and_then (numeral_of 10)
         (after_text word.now (codes "Domain"))) }
@@ -96,7 +96,7 @@ fn is_later_domain(word: &[u8]) -> bool
     }
 }
 
-/// Whether words are on a region of another domain.
+/// Returns whether words describe a region of another domain.
 fn is_other_region(mut words: Words<'_>) -> bool
     ensures { result ≡ is_other_region (split_words words.entry.rest.now) }
 {
@@ -109,7 +109,7 @@ fn is_other_region(mut words: Words<'_>) -> bool
     is_later_domain(domain) && after_text(region, b"Region").is_some()
 }
 
-/// Whether a line could be on a region: two of what a region's line has are in it.
+/// Returns whether a line could describe a region, because it contains two features of such a line.
 fn resembles_region(raw: &[u8]) -> bool
     ensures { result ≡ resembles_region raw.now }
 {
@@ -118,7 +118,7 @@ fn resembles_region(raw: &[u8]) -> bool
     (is_of_domain && is_of_region) || ((is_of_domain || is_of_region) && mentions(raw, b"-0x"))
 }
 
-/// How many entries the hart has, in words that say so.
+/// Returns the number of the hart's PMP entries, if the words state it.
 fn count_in_words(mut words: Words<'_>) -> Option<&[u8]>
     ensures { option_map (λ digits. digits.now) result
         ≡ count_in (split_words words.entry.rest.now) }
@@ -139,14 +139,14 @@ fn count_in_words(mut words: Words<'_>) -> Option<&[u8]>
     }
 }
 
-/// How many entries the hart has, in a line that says so.
+/// Returns the number of the hart's PMP entries, if the line states it.
 pub(crate) fn count_in(raw: &[u8]) -> Option<&[u8]>
     ensures { option_map (λ digits. digits.now) result ≡ count_of raw.now }
 {
     count_in_words(words_in(raw))
 }
 
-/// Whether words are about the hart that boots.
+/// Returns whether words describe the boot hart.
 fn is_of_hart(mut words: Words<'_>) -> bool
     ensures { result ≡ is_of_hart (split_words words.entry.rest.now) }
 {
@@ -159,7 +159,7 @@ fn is_of_hart(mut words: Words<'_>) -> bool
     is_text(boot, b"Boot") && is_text(hart, b"HART")
 }
 
-/// Whether words are about a domain.
+/// Returns whether words describe a domain.
 fn is_of_domain(mut words: Words<'_>) -> bool
     ensures { result ≡ is_of_domain (split_words words.entry.rest.now) }
 {
@@ -172,7 +172,7 @@ fn is_of_domain(mut words: Words<'_>) -> bool
     numeral(digits, 10).is_some()
 }
 
-/// Whether a line could say the domain of the hart that boots.
+/// Returns whether a line could name the domain of the boot hart.
 fn resembles_hart(raw: &[u8]) -> bool
     ensures { result ≡ resembles_hart raw.now }
 {
@@ -183,7 +183,7 @@ fn resembles_hart(raw: &[u8]) -> bool
         || ((is_of_boot && is_of_hart) && (mentions(raw, b"Dom") || mentions(raw, b"ain")))
 }
 
-/// Whether a line could be on a region, or on the hart that boots, and is not: it was damaged on its way.
+/// Returns whether a line resembles one about a region or the boot hart but is not one, because it was damaged.
 fn is_damaged(raw: &[u8]) -> bool
     ensures { result ≡ is_damaged raw.now }
 {
@@ -191,7 +191,7 @@ fn is_damaged(raw: &[u8]) -> bool
         || (resembles_hart(raw) && !(is_of_hart(words_in(raw)) || is_of_domain(words_in(raw))))
 }
 
-/// Whether words name the first domain.
+/// Returns whether words name the first domain.
 fn is_root(mut words: Words<'_>) -> bool
     ensures { result ≡ is_root (split_words words.entry.rest.now) }
 {
@@ -204,14 +204,14 @@ fn is_root(mut words: Words<'_>) -> bool
     is_text(colon, b":") && is_text(name, b"root")
 }
 
-/// Whether a word is `Domain`, or could be with a letter of it lost or another one.
+/// Returns whether a word is `Domain`, possibly with a letter lost or changed.
 fn resembles_domain(word: &[u8]) -> bool
     ensures { result ≡ resembles_domain word.now }
 {
     mentions(word, b"Dom") || mentions(word, b"ain")
 }
 
-/// Whether words of the hart that boots say its domain, and do not say that it is the first.
+/// Returns whether words about the boot hart mention its domain, but do not name the first one.
 fn is_elsewhere(mut words: Words<'_>) -> bool
     ensures { result ≡ is_elsewhere (split_words words.entry.rest.now) }
 {
@@ -224,7 +224,7 @@ fn is_elsewhere(mut words: Words<'_>) -> bool
     resembles_domain(domain) && !(is_text(domain, b"Domain") && is_root(words))
 }
 
-/// Whether a word names the instruction set of the other width.
+/// Returns whether a word names the instruction set of the other width.
 fn is_other_width(xlen: Xlen, word: &[u8]) -> bool
     ensures { result ≡ is_other_width xlen word.now }
 {
@@ -234,7 +234,7 @@ fn is_other_width(xlen: Xlen, word: &[u8]) -> bool
     }
 }
 
-/// Whether none of the words does.
+/// Returns whether no word names the instruction set of the other width.
 fn are_of_width(xlen: Xlen, words: Words<'_>) -> bool
     ensures { result ≡ list_all (λ word. not (is_other_width xlen word))
         (split_words words.entry.rest.now) }
@@ -248,14 +248,14 @@ fn are_of_width(xlen: Xlen, words: Words<'_>) -> bool
     true
 }
 
-/// Whether words say that the hart that boots is none that these registers are of.
+/// Returns whether words state that the boot hart cannot have these registers.
 fn is_another_hart(xlen: Xlen, words: Words<'_>) -> bool
     ensures { result ≡ is_another_hart xlen (split_words words.entry.rest.now) }
 {
     is_of_hart(words) && (is_elsewhere(words) || !are_of_width(xlen, words))
 }
 
-/// The number of a region.
+/// Parses the number of a region.
 fn number_in(region: &[u8]) -> Option<u64>
     ensures { result ≡ number_in region.now }
 {
@@ -263,7 +263,7 @@ fn number_in(region: &[u8]) -> Option<u64>
     numeral(digits, 10)
 }
 
-/// Whether an address is padded with zeros to eight digits, as those of RV32 are, on a hart of RV64.
+/// Returns whether an address is padded with zeros to eight digits, as on RV32, but the hart is RV64.
 fn is_narrow(xlen: Xlen, word: &[u8]) -> bool
     ensures { result ≡ is_narrow xlen word.now }
 {
@@ -273,7 +273,7 @@ fn is_narrow(xlen: Xlen, word: &[u8]) -> bool
     }
 }
 
-/// The block from the first to the last address of a region.
+/// Parses the block from the first to the last address of a region.
 fn block_in(xlen: Xlen, word: &[u8]) -> Option<Region>
     ensures { option_map (λ r. (r.base, r.log2)) result ≡ block_in xlen word.now }
 {
@@ -286,7 +286,7 @@ fn block_in(xlen: Xlen, word: &[u8]) -> Option<Region>
     block_from(xlen, first, last)
 }
 
-/// The letters of supervisor and user mode.
+/// Returns the letters of supervisor and user mode.
 fn letters_in(mut words: Words<'_>) -> Option<&[u8]>
     ensures { option_map (λ letters. letters.now) result
         ≡ letters_in (split_words words.entry.rest.now) }
@@ -307,7 +307,7 @@ fn letters_in(mut words: Words<'_>) -> Option<&[u8]>
     }
 }
 
-/// The permission of supervisor and user mode.
+/// Parses the permission of supervisor and user mode.
 fn perm_in(words: Words<'_>) -> Option<Perm>
     ensures { result ≡ option_and_then perm_of (letters_in (split_words words.entry.rest.now)) }
 {
@@ -315,7 +315,7 @@ fn perm_in(words: Words<'_>) -> Option<Perm>
     perm_of(letters)
 }
 
-/// The entry of a region by its parts.
+/// Returns the entry of a region, given its parts.
 fn entry_by(number: Option<u64>, region: Option<Region>, perm: Option<Perm>) -> Option<RegionEntry>
     ensures value { result ≡ entry_by number (option_map (λ r. (r.base, r.log2)) region) perm }
     ensures inside { IfSome result (λ entry. entry.place < 64) }
@@ -334,7 +334,7 @@ fn entry_by(number: Option<u64>, region: Option<Region>, perm: Option<Perm>) -> 
     })
 }
 
-/// What words on a region set.
+/// Parses the entry in the words about a region.
 fn entry_in(xlen: Xlen, mut words: Words<'_>) -> Option<RegionEntry>
     ensures value { result ≡ entry_in xlen (split_words words.entry.rest.now) }
     ensures inside { IfSome result (λ entry. entry.place < 64) }
@@ -349,7 +349,7 @@ fn entry_in(xlen: Xlen, mut words: Words<'_>) -> Option<RegionEntry>
     entry_by(number_in(region), block_in(xlen, block), perm_in(words))
 }
 
-/// What words say.
+/// Parses words, which may describe no region.
 fn said_by(xlen: Xlen, words: Words<'_>) -> Result<Option<RegionEntry>, NotUnderstood>
     ensures value { result_ok result ≡ said_by xlen (split_words words.entry.rest.now) }
     ensures inside { IfOk result (λ said. IfSome said (λ entry. entry.place < 64)) }
@@ -367,7 +367,7 @@ fn said_by(xlen: Xlen, words: Words<'_>) -> Result<Option<RegionEntry>, NotUnder
     }
 }
 
-/// What a line of the boot log of a hart of that width says: the entry of a region, or nothing.
+/// Parses a line of the boot log of a hart with this width: the entry of a region, or nothing.
 pub fn log_says(xlen: Xlen, raw: &[u8]) -> Result<Option<RegionEntry>, NotUnderstood>
     ensures value { result_ok result ≡ log_says xlen raw.now }
     ensures inside { IfOk result (λ said. IfSome said (λ entry. entry.place < 64)) }
@@ -378,7 +378,7 @@ pub fn log_says(xlen: Xlen, raw: &[u8]) -> Result<Option<RegionEntry>, NotUnders
     said_by(xlen, words_in(raw))
 }
 
-/// Whether a text is a boot log: whether some line of it is on a region.
+/// Returns whether a text is a boot log, that is, some line describes a region.
 pub fn is_boot_log(bytes: &[u8]) -> bool
     ensures { result ≡ is_boot_log bytes.now }
 {

@@ -1,4 +1,4 @@
-//! A listing of registers, line by line.
+//! Reads a listing of registers line by line.
 
 ghost use Rattle.std.specs.Prelude.{◌≡◌, ◌-◌, ◌^◌, ◌<◌, ◌≤◌, IfErr, IfOk, Some, length};
 ghost use Rattle.std.specs.Option.{is_some};
@@ -14,33 +14,33 @@ use pmp_encoding::Xlen;
 use pmp_match::Registers;
 use text_lines::{AT_ONCE, LineReader, next_line};
 
-/// What the lines of a listing leave.
+/// The result of reading the lines of a listing.
 #[derive(Clone, Copy)]
 pub struct Listing {
-    /// The registers of the protection. What no line sets is zero.
+    /// The PMP registers. Those that no line sets are zero.
     pub registers: Registers,
-    /// `mseccfg`, the register of Smepmp: zero where no line sets it.
+    /// `mseccfg`, the register of Smepmp, or zero if no line sets it.
     pub mseccfg: u64,
-    /// The number of the first line of another register, which is passed over, from 1.
+    /// The number, from 1, of the first line that was ignored because it is about another register.
     pub passed: Option<u64>,
-    /// How many entries are said to be listed, each by its pair, where a line says so.
+    /// The number of entries that are listed as pairs, if a line states it.
     pub entries: Option<u64>,
-    /// How many lines set the pair of an entry.
+    /// The number of lines that set the pair of an entry.
     pub pairs: u64,
     /// The entry of the last pair.
     pub last: Option<u64>,
-    /// The number of the hart, where a line says it.
+    /// The number of the hart, if a line states it.
     pub hart: Option<u64>,
-    /// Whether OpenOCD's heading has come.
+    /// True if OpenOCD's heading was read.
     pub is_headed: bool,
-    /// How many entries the hart has, where a line of a boot log says it.
+    /// The number of the hart's entries, if a line of a boot log states it.
     pub limit: Option<u64>,
-    /// Whether a line is about the protection.
+    /// True if a line is about PMP.
     pub is_set: bool,
 }
 
 impl Listing {
-    /// Whether it is whole: some line is about the protection, and each entry is there that is counted.
+    /// Returns whether the listing is complete: some line is about PMP, and the number of pairs is the stated one.
     fn is_whole(&self) -> bool
         ensures { result ≡ is_whole self.now }
     {
@@ -48,7 +48,7 @@ impl Listing {
     }
 }
 
-/// Whether as many pairs are listed as a count says.
+/// Returns whether the number of pairs is the stated one.
 fn has_all(entries: Option<u64>, pairs: u64) -> bool
     ensures { result ≡ has_all entries pairs }
 {
@@ -58,16 +58,16 @@ fn has_all(entries: Option<u64>, pairs: u64) -> bool
     }
 }
 
-/// What lines leave, and how many they are.
+/// The result of reading lines, and their number.
 #[derive(Clone, Copy)]
 pub(crate) struct Left {
-    /// What they leave.
+    /// The result.
     pub listing: Listing,
-    /// How many they are.
+    /// The number of lines.
     pub lines: u64,
 }
 
-/// What lines of registers leave.
+/// Reads the lines of a listing of registers.
 fn register_listing(xlen: Xlen, bytes: &[u8]) -> Result<Left, u64>
     requires { length bytes.now < 2 ^ 64 - 1 }
     ensures listing { IfOk result (λ left.
@@ -97,7 +97,7 @@ fn register_listing(xlen: Xlen, bytes: &[u8]) -> Result<Left, u64>
     })
 }
 
-/// What the lines of a listing leave, each by what came before it.
+/// Reads the lines of a listing, each in the context of the lines before it.
 fn lines_leave(xlen: Xlen, bytes: &[u8]) -> Result<Left, u64>
     requires { length bytes.now < 2 ^ 64 - 1 }
     ensures listing { IfOk result (λ left.
@@ -113,8 +113,8 @@ fn lines_leave(xlen: Xlen, bytes: &[u8]) -> Result<Left, u64>
     }
 }
 
-/// What the lines of a listing of registers of that width leave, or the number of the first line that is not understood. Of a boot log only the lines on
-/// regions are looked at.
+/// Reads a listing of registers with this width, or returns the number of the first invalid line. In a boot log only
+/// the lines about regions are read.
 pub fn listing_of(xlen: Xlen, bytes: &[u8]) -> Result<Listing, u64>
     requires { length bytes.now < 2 ^ 64 - 1 }
     ensures listing { IfOk result (λ listing. listed xlen bytes.now ≡ Some listing) }
@@ -128,7 +128,7 @@ pub fn listing_of(xlen: Xlen, bytes: &[u8]) -> Result<Listing, u64>
     }
 }
 
-/// Whether each line of a listing of registers of that width is understood.
+/// Returns whether each line of a listing of registers with this width is valid.
 pub fn is_listing(xlen: Xlen, bytes: &[u8]) -> bool
     requires { length bytes.now < 2 ^ 64 - 1 }
     ensures { result ≡ is_some (listed xlen bytes.now) }

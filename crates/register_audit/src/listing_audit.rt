@@ -13,6 +13,7 @@ ghost use Rattle.register_audit.specs.Verdicts.{IsVerdict, is_difference, is_mea
 
 use crate::differences::differences_of;
 use crate::fault::ListingFault;
+use crate::fewest::{Fewest, fewest_with_chain};
 use crate::texts::{stretch_line, verdict_line};
 use crate::verdict::{Verdict, verdict_of};
 use crate::{Listing, listing_of, push_notes, text_of_line, unknown_bit, unknown_bit_line};
@@ -22,7 +23,7 @@ use pmp_match::{Mode, Registers};
 use std::alloc::Global;
 use text_lines::{Sink, write_whole};
 
-/// What is said of a listing, and whether it is a yes.
+/// The text about a listing, and whether the verdict is positive.
 #[derive(Drop)]
 struct Answer {
     text: Vec<u8>,
@@ -35,14 +36,15 @@ fn is_meant(verdict: &Verdict) -> bool
     matches!(verdict, Verdict::Means { .. })
 }
 
-/// Whether a verdict is a stretch that differs, and each of them is asked for.
+/// Returns whether all differing stretches were requested and the verdict is such a stretch.
 fn is_each(all: bool, verdict: &Verdict) -> bool
     ensures { result ≡ (all && is_difference verdict.now) }
 {
     all && matches!(verdict, Verdict::Differs(_))
 }
 
-/// Writes the line of a verdict, or with `all` a line for each stretch that differs. The only error is out of memory.
+/// Returns the line of a verdict, or with `all` a line for each stretch that differs. The only error is a failed
+/// allocation.
 fn text_of(
     alloc: Global,
     map: &PermissionMap,
@@ -61,12 +63,17 @@ fn text_of(
         }
         return Ok(text);
     }
+    let chained = fewest_with_chain(alloc, map, registers.xlen)?;
+    let fewest = Fewest {
+        blocks: fewest,
+        chained,
+    };
     let line = verdict_line(mode, fewest, registers, verdict);
     text.extend_from_slice(line.as_slice())?;
     Ok(text)
 }
 
-/// The answer on what a listing leaves. The only error is out of memory.
+/// Returns the answer for a listing. The only error is a failed allocation.
 fn answer_of(
     alloc: Global,
     map: &PermissionMap,
@@ -91,10 +98,11 @@ fn answer_of(
     })
 }
 
-/// Reads a listing of registers of that width and writes, in one line, whether they mean the map for a mode, and where they do
-/// not first, or with `all` in a line for each stretch that differs; and after it comments on what is passed over. `fewest` is how many
-/// entries are enough for the map. Where a line is not understood or memory is refused, nothing is written; where the device
-/// failed, or took none of some bytes, a beginning of the text was written, not all of it.
+/// Reads a listing of registers with this width, and writes a line with the verdict: the registers mean the map for a
+/// mode, or the first place at which they do not, or with `all` a line for each stretch that differs. Comments on
+/// ignored lines follow. `fewest` is the fewest NA4 and NAPOT entries for the map; if [`fewest_with_chain`] is less, the
+/// line has both numbers. If a line is invalid or an allocation fails, nothing is written; if the device fails, or
+/// accepts no bytes, only a beginning of the text was written.
 pub fn audit<W: Sink>(
     alloc: Global,
     map: &PermissionMap,

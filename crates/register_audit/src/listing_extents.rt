@@ -1,4 +1,4 @@
-//! What the entries of a listing match.
+//! The addresses that the entries of a listing match.
 
 ghost use Rattle.std.specs.Prelude.{◌≡◌, IfErr, IfOk, None};
 ghost use Rattle.pmp_match.specs.RegisterMatching.{AreExtents};
@@ -11,7 +11,7 @@ use crate::security_bits::unknown_bit;
 use pmp_match::{Extent, extents_of};
 use text_lines::Line;
 
-/// Returns the addresses that each entry of a listing matches, or a line that says why the listing means nothing.
+/// Returns the addresses that each entry of a listing matches, or a line with the reason why the listing means nothing.
 pub fn extents_in(listing: &Listing) -> Result<[Extent; 64], Line>
     ensures modelled { IfOk result (λ _. unknown_bit listing.now.mseccfg ≡ None) }
     ensures extents { IfOk result (AreExtents listing.now.registers) }

@@ -10,25 +10,25 @@ use crate::{Listing, ListingNotes, extents_in, listing_of, notes_of};
 use pmp_encoding::Xlen;
 use text_lines::Line;
 
-/// What a listing has.
+/// The rules of a listing, or the lack of them.
 #[derive(Drop)]
 pub enum Ruled {
     /// Registers that judge accesses.
     Rules(Rules),
-    /// Others, and the line that says why they judge none.
+    /// The line with the reason why the registers judge no access.
     Refused(Line),
 }
 
-/// What a listing has, and what is said of it beside.
+/// The rules of a listing, and the comments on it.
 #[derive(Drop)]
 pub struct ListingRules {
-    /// What it has.
+    /// The rules.
     pub ruled: Ruled,
-    /// The comments on what is passed over.
+    /// The comments on ignored lines.
     pub notes: ListingNotes,
 }
 
-/// The rules of what a listing leaves.
+/// Returns the rules of a listing.
 fn ruled_by(listing: &Listing) -> Ruled
     ensures { (xlen : Xlen) (bytes : List ℕ) → listed xlen bytes ≡ Some listing.now
         → IsRuled xlen bytes result }
@@ -39,8 +39,8 @@ fn ruled_by(listing: &Listing) -> Ruled
     }
 }
 
-/// The rules of the registers of that width that a listing leaves, or the line that says why they judge nothing: an entry with a
-/// reserved value, or a bit of `mseccfg` that is not known. The error is the number of the first line that is not understood.
+/// Returns the rules of the registers in a listing with this width, or the line with the reason why they judge nothing:
+/// an entry with a reserved value, or an unknown bit of `mseccfg`. The error is the number of the first invalid line.
 pub fn rules_in(xlen: Xlen, listing: &[u8]) -> Result<ListingRules, u64>
     requires { length listing.now < 2 ^ 64 - 1 }
     ensures ruled { IfOk result (λ rules.

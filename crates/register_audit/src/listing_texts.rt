@@ -1,4 +1,4 @@
-//! Lines about a listing, for people.
+//! Human-readable lines about a listing.
 
 ghost use Rattle.std.specs.Prelude.{◌≡◌, IfOk};
 
@@ -13,13 +13,13 @@ use text_lines::{Line, push_text};
 /// The words of a line. A part that does not fit is left out.
 pub(crate) type Words = ArrayString<128>;
 
-/// Comments on a listing: what was passed over.
+/// Comments on a listing, about ignored lines.
 pub type ListingNotes = ArrayVec<u8, 256>;
 
-/// The most bytes of a line.
+/// Maximum length of a line in bytes.
 const ROOM: usize = 128;
 
-/// Makes a line of these words.
+/// Converts words to a line.
 pub(crate) fn line_of(words: &Words) -> Line {
     let mut line = Line::new();
     let bytes = words.as_str().as_bytes();
@@ -29,7 +29,7 @@ pub(crate) fn line_of(words: &Words) -> Line {
     line
 }
 
-/// Makes a text of one line. The only error is out of memory.
+/// Returns a text of one line. The only error is a failed allocation.
 pub fn text_of_line(alloc: Global, line: &Line) -> Result<Vec<u8>, AllocError>
     ensures { IfOk result (λ text. text.items ≡ line.now) }
 {
@@ -38,7 +38,7 @@ pub fn text_of_line(alloc: Global, line: &Line) -> Result<Vec<u8>, AllocError>
     Ok(text)
 }
 
-/// The line about an entry that has a reserved value.
+/// Returns the line about an entry with a reserved value.
 pub fn reserved_line(registers: &Registers, found: &ReservedAt) -> Line {
     let place = found.place;
     let (Some(cfg), Some(address)) = (registers.cfgs.get(place), registers.addresses.get(place))
@@ -60,7 +60,7 @@ pub fn reserved_line(registers: &Registers, found: &ReservedAt) -> Line {
     line_of(&words)
 }
 
-/// The line about an `mseccfg` with a bit that no extension defines.
+/// Returns the line about an `mseccfg` with a bit that no extension defines.
 pub fn unknown_bit_line(mseccfg: u64, bit: u8) -> Line {
     let mut words = Words::new();
     let _ = writeln!(
@@ -70,7 +70,7 @@ pub fn unknown_bit_line(mseccfg: u64, bit: u8) -> Line {
     line_of(&words)
 }
 
-/// Appends the comment on the first line that is passed over, if there is one.
+/// Appends the comment on the first ignored line, if there is one.
 fn note_passed(words: &mut ArrayString<256>, passed: Option<u64>) {
     if let Some(first) = passed {
         let _ = writeln!(
@@ -90,7 +90,7 @@ fn note_foreign_bit(words: &mut ArrayString<256>, bit: Option<u8>) {
     }
 }
 
-/// The comments on what is passed over in a listing.
+/// Returns the comments on the ignored parts of a listing.
 pub fn notes_of(listing: &Listing) -> ListingNotes {
     let mut words = ArrayString::new();
     note_passed(&mut words, listing.passed);
@@ -100,7 +100,7 @@ pub fn notes_of(listing: &Listing) -> ListingNotes {
     notes
 }
 
-/// Appends the comments on what is passed over in a listing. The only error is out of memory.
+/// Appends the comments on the ignored parts of a listing. The only error is a failed allocation.
 pub fn push_notes(text: &mut Vec<u8>, listing: &Listing) -> Result<(), AllocError> {
     text.extend_from_slice(notes_of(listing).as_slice())?;
     Ok(())

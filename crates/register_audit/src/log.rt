@@ -1,4 +1,4 @@
-//! OpenSBI's boot log as a listing, line by line.
+//! Reads OpenSBI's boot log as a listing, line by line.
 
 ghost use Rattle.std.specs.Prelude.{◌≡◌, ◌-◌, ◌^◌, ◌<◌, ◌≤◌, IfErr, IfOk, IfSome, Some, length};
 ghost use Rattle.std.specs.Option.{option_and_then};
@@ -16,7 +16,7 @@ use crate::setting::{Setting, nothing_set};
 use pmp_encoding::Xlen;
 use text_lines::{NotUnderstood, numeral, split_line};
 
-/// What the count of a boot log sets: how many entries the hart has.
+/// Returns the setting of a stated number of PMP entries.
 fn limit_setting(digits: &[u8]) -> Option<Setting>
     ensures value { result ≡ limit_setting digits.now }
     ensures inside { (xlen : Xlen) → IfSome result (IsInside xlen) }
@@ -25,7 +25,7 @@ fn limit_setting(digits: &[u8]) -> Option<Setting>
     Some(Setting::Limit { entries })
 }
 
-/// What a line of a boot log sets after so many regions, where it is understood.
+/// Parses a line of a boot log that follows `next` regions.
 fn log_sets(xlen: Xlen, next: u64, raw: &[u8]) -> Result<Setting, NotUnderstood>
     ensures value { result_ok result ≡ log_sets xlen next raw.now }
     ensures inside { IfOk result (IsInside xlen) }
@@ -39,7 +39,7 @@ fn log_sets(xlen: Xlen, next: u64, raw: &[u8]) -> Result<Setting, NotUnderstood>
     region_sets(xlen, next, raw)
 }
 
-/// What a line of a boot log sets that does not count the entries of the hart.
+/// Parses a line of a boot log that does not state the number of PMP entries.
 fn region_sets(xlen: Xlen, next: u64, raw: &[u8]) -> Result<Setting, NotUnderstood>
     ensures value { result_ok result
         ≡ option_and_then (region_setting next) (log_says xlen raw.now) }
@@ -60,7 +60,7 @@ fn region_sets(xlen: Xlen, next: u64, raw: &[u8]) -> Result<Setting, NotUndersto
     }
 }
 
-/// What the lines of a boot log leave.
+/// Reads the lines of a boot log.
 pub(crate) fn log_listing(xlen: Xlen, bytes: &[u8]) -> Result<Left, u64>
     requires { length bytes.now < 2 ^ 64 - 1 }
     ensures listing { IfOk result (λ left.

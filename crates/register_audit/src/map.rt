@@ -30,14 +30,14 @@ use pmp_match::{Extent, Mode};
 use std::alloc::Global;
 use text_lines::{Sink, write_whole};
 
-/// What is said of registers, and whether it is a map.
+/// The text about registers, and whether it is a map.
 #[derive(Drop)]
 struct Said {
     text: Vec<u8>,
     is_map: bool,
 }
 
-/// What is said of extents.
+/// Returns the text about extents.
 fn said_of_extents(alloc: Global, extents: &[Extent]) -> Result<Said, NoMapReason>
     requires { All IsWords extents.now }
     ensures said { IfOk result (λ said.
@@ -67,7 +67,7 @@ fn said_of_extents(alloc: Global, extents: &[Extent]) -> Result<Said, NoMapReaso
     }
 }
 
-/// What is said of what a listing leaves, for a mode.
+/// Returns the text about a listing, for a mode.
 fn said_of(alloc: Global, mode: Mode, listing: &Listing) -> Result<Said, NoMapReason>
     ensures said { IfOk result (λ said. IsMapOf mode listing.now said.text.items said.is_map) }
     ensures many { result ≡ Err NoMapReason.TooManyRanges → AreTooFine mode listing.now }
@@ -87,19 +87,19 @@ fn said_of(alloc: Global, mode: Mode, listing: &Listing) -> Result<Said, NoMapRe
     Ok(said)
 }
 
-/// Whether registers have a map, and what is said of their listing beside it.
+/// The result of printing a map: whether there is one, and comments on the listing.
 #[derive(Drop)]
 pub struct MapAnswer {
-    /// Whether there is a map.
+    /// True if there is a map.
     pub is_map: bool,
-    /// The comments on what is passed over.
+    /// The comments on ignored lines.
     pub notes: ListingNotes,
 }
 
-/// Reads a listing of registers of that width, and writes the map that they mean for a mode, as the lines of a map file; or one
-/// line that says why no map of whole pages is what the mode may do under them. Where a line is not understood, there are too
-/// many ranges or memory is refused, nothing is written; where the device failed, or took none of some bytes, a beginning of the
-/// text was written.
+/// Reads a listing of registers with this width, and writes the map that they mean for a mode, as the lines of a map
+/// file; or one line with the reason why no map of whole pages describes the mode's permissions. If a line is invalid,
+/// there are too many ranges or an allocation fails, nothing is written; if the device fails, or accepts no bytes, only
+/// a beginning of the text was written.
 pub fn print_map_of<W: Sink>(
     alloc: Global,
     mode: Mode,

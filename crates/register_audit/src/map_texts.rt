@@ -1,4 +1,4 @@
-//! The lines of a map, and why there is none.
+//! The lines of a map, and the messages if there is no map.
 
 ghost use Rattle.std.specs.Prelude.{◌≡◌, ◌+◌, ◌++◌, ◌*◌, ◌^◌, ◌<◌, ◌≤◌, IfOk};
 ghost use Rattle.permission_map.specs.Runs.{AreRuns, end_of};
@@ -13,7 +13,7 @@ use std::alloc::Global;
 use std::fmt::Write;
 use text_lines::{Line, push_hex, push_text};
 
-/// The line of a range.
+/// Returns the line of a range.
 fn run_line(run: &Run) -> Line
     requires { end_of run.now ≤ 2 ^ 44 }
     ensures { result ≡ run_text run.now }
@@ -29,7 +29,7 @@ fn run_line(run: &Run) -> Line
     line
 }
 
-/// The lines of a map. The only error is out of memory.
+/// Returns the lines of a map. The only error is a failed allocation.
 pub(crate) fn map_text(alloc: Global, map: &PermissionMap) -> Result<Vec<u8>, Memory>
     ensures text { IfOk result (λ text. text.items ≡ map_text map.now) }
     ensures runs { IfOk result (λ _. AreRuns map.now) }
@@ -42,7 +42,7 @@ pub(crate) fn map_text(alloc: Global, map: &PermissionMap) -> Result<Vec<u8>, Me
     Ok(text)
 }
 
-/// The line about bytes whose permission differs from that of their page's first byte.
+/// Returns the line about bytes whose permission differs from that of their page's first byte.
 pub(crate) fn below_line(stretch: &Stretch) -> Line {
     let first = stretch.first;
     let last = stretch.end.saturating_sub(1);
@@ -56,7 +56,7 @@ pub(crate) fn below_line(stretch: &Stretch) -> Line {
     line_of(&words)
 }
 
-/// The line about an access that an entry cuts.
+/// Returns the line about an access that an entry cuts.
 pub(crate) fn cut_line(entry: usize, at: u64) -> Line {
     let last = at.saturating_add(7);
     let mut words = Words::new();

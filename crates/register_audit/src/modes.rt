@@ -1,4 +1,4 @@
-//! What the entries of registers give a mode.
+//! The permissions that the entries of registers grant a mode.
 
 ghost use Rattle.std.specs.Prelude.{◌≡◌, IfOk};
 ghost use Rattle.pmp_match.specs.RegisterMatching.{AreExtents};
@@ -10,7 +10,7 @@ use pmp_encoding::{Perm, Xlen};
 use pmp_match::{Extent, Mode, Registers};
 use std::alloc::Global;
 
-/// The addresses of an extent, with another permission.
+/// Returns the addresses of an extent with another permission.
 fn with_perm(extent: &Extent, perm: Perm) -> Extent
     ensures { result ≡ with_perm extent.now perm }
 {
@@ -21,7 +21,7 @@ fn with_perm(extent: &Extent, perm: Perm) -> Extent
     }
 }
 
-/// The whole space of a hart of that width, with one permission.
+/// Returns the whole space of a hart of this width with one permission.
 fn everywhere(xlen: Xlen, perm: Perm) -> Extent
     ensures { result ≡ everywhere xlen perm }
 {
@@ -32,7 +32,8 @@ fn everywhere(xlen: Xlen, perm: Perm) -> Extent
     }
 }
 
-/// What entries, which match these addresses, give a mode. The only error is out of memory.
+/// Returns the permissions that entries, which match these addresses, grant a mode. The only error is a failed
+/// allocation.
 pub(crate) fn entries_given(
     alloc: Global,
     mode: Mode,
@@ -49,7 +50,7 @@ pub(crate) fn entries_given(
     Ok(given)
 }
 
-/// The same, and after the last entry what the mode may do where none matches.
+/// Returns the same, followed by the mode's permission for the space that no entry matches.
 pub(crate) fn given_by(
     alloc: Global,
     mode: Mode,

@@ -1,4 +1,4 @@
-//! Which words could be about the protection, which name a hart, and the values of registers.
+//! Recognizes words about PMP and names of harts, and parses the values of registers.
 
 ghost use Rattle.std.specs.Prelude.{◌≡◌, option_map};
 ghost use Rattle.std.specs.List.{list_all};
@@ -6,7 +6,7 @@ ghost use Rattle.register_audit.specs.Names.{are_digits, is_about_pmp, is_csr_of
 
 use text_lines::{after_name, begins_with, number};
 
-/// Whether a text has a name somewhere in it, in upper or lower case.
+/// Returns whether a text contains a name, ignoring case.
 pub(crate) fn mentions(text: &[u8], name: &[u8]) -> bool
     ensures { result ≡ mentions text.now name.now }
 {
@@ -20,14 +20,14 @@ pub(crate) fn mentions(text: &[u8], name: &[u8]) -> bool
     false
 }
 
-/// Whether a number is that of a register of the protection.
+/// Returns whether a number is that of a PMP register.
 fn is_csr_of_pmp(n: u64) -> bool
     ensures { result ≡ is_csr_of_pmp n }
 {
     (n >= 0x3a0 && n <= 0x3ef) || (n == 0x747 || n == 0x757)
 }
 
-/// Whether a word names such a register by its number, as debuggers do that have no name for it.
+/// Returns whether a word is the number of such a register, as debuggers print one whose name they do not know.
 fn numbers_csr(word: &[u8]) -> bool
     ensures { result ≡ numbers_csr word.now }
 {
@@ -40,7 +40,7 @@ fn numbers_csr(word: &[u8]) -> bool
     }
 }
 
-/// Whether a word has some of the name of a register of the protection.
+/// Returns whether a word contains part of the name of a PMP register.
 fn resembles_pmp(word: &[u8]) -> bool
     ensures { result ≡ resembles_pmp word.now }
 {
@@ -48,28 +48,28 @@ fn resembles_pmp(word: &[u8]) -> bool
         || (mentions(word, b"msec") || mentions(word, b"ccfg"))
 }
 
-/// Whether a word could be about the protection.
+/// Returns whether a word could be about PMP.
 pub(crate) fn is_about_pmp(word: &[u8]) -> bool
     ensures { result ≡ is_about_pmp word.now }
 {
     mentions(word, b"pmp") || (resembles_pmp(word) || numbers_csr(word))
 }
 
-/// Whether a byte is a decimal digit.
+/// Returns whether a byte is a decimal digit.
 fn is_digit(b: u8) -> bool
     ensures { result ≡ is_digit b }
 {
     b >= 48 && b <= 57
 }
 
-/// Whether no byte is anything but a decimal digit.
+/// Returns whether all bytes are decimal digits.
 fn all_digits(bytes: &[u8]) -> bool
     ensures { result ≡ list_all is_digit bytes.now }
 {
     bytes.iter().all(|b| is_digit(*b))
 }
 
-/// Whether there is a text, and it has no other bytes than decimal digits.
+/// Returns whether there is a text and all its bytes are decimal digits.
 fn are_digits(text: Option<&[u8]>) -> bool
     ensures { result ≡ are_digits (option_map (λ digits. digits.now) text.entry) }
 {
@@ -79,7 +79,7 @@ fn are_digits(text: Option<&[u8]>) -> bool
     }
 }
 
-/// Whether a word names a hart, its number behind it or as the next word.
+/// Returns whether a word names a hart, with its number at the end or in the next word.
 pub(crate) fn names_hart(word: &[u8]) -> bool
     ensures { result ≡ names_hart word.now }
 {
@@ -87,7 +87,7 @@ pub(crate) fn names_hart(word: &[u8]) -> bool
         || (are_digits(after_name(word, b"cpu")) || are_digits(after_name(word, b"core")))
 }
 
-/// Whether a word is a decimal number that begins with zero, which could be meant as hexadecimal.
+/// Returns whether a word is a decimal number with a leading zero, which could be hexadecimal.
 fn is_padded(word: &[u8]) -> bool
     ensures { result ≡ is_padded word.now }
 {
@@ -97,7 +97,7 @@ fn is_padded(word: &[u8]) -> bool
     }
 }
 
-/// The number that a word spells, in decimal without a zero before it, or after `0x`.
+/// Parses a number in decimal without a leading zero, or in hexadecimal after `0x`.
 pub(crate) fn unpadded(word: &[u8]) -> Option<u64>
     ensures { result ≡ unpadded word.now }
 {
@@ -107,7 +107,7 @@ pub(crate) fn unpadded(word: &[u8]) -> Option<u64>
     number(word)
 }
 
-/// The value that a word spells for a register of this name.
+/// Parses the value of a register with this name.
 pub(crate) fn value_of(name: &[u8], word: &[u8]) -> Option<u64>
     ensures { result ≡ value_of name.now word.now }
 {

@@ -1,4 +1,4 @@
-//! The map of what extents give the first byte of each page.
+//! The map of the permissions that extents give the first byte of each page.
 
 ghost use Rattle.std.specs.Prelude.{◌≡◌, ◌+◌, ◌*◌, ◌^◌, ◌<◌, ◌≤◌, All, Err, IfOk};
 ghost use Rattle.permission_map.specs.Runs.{view_of_runs};
@@ -13,7 +13,7 @@ use pmp_encoding::PAGE_SIZE;
 use pmp_match::Extent;
 use std::alloc::Global;
 
-/// The first page that does not begin before the byte.
+/// Returns the first page that does not begin before the byte.
 fn page_from(byte: u64) -> u64
     requires { byte ≤ 2 ^ 56 }
     ensures from { byte ≤ 4096 * result }
@@ -22,7 +22,7 @@ fn page_from(byte: u64) -> u64
     (byte + PAGE_SIZE - 1) / PAGE_SIZE
 }
 
-/// The map that gives each page what the extents give its first byte.
+/// Returns the map in which each page has the permission that the extents give its first byte.
 pub(crate) fn first_bytes(alloc: Global, extents: &[Extent]) -> Result<PermissionMap, NoMapReason>
     requires { All IsWords extents.now }
     ensures map { IfOk result (λ map. HasFirstBytes extents.now (view_of_runs map)) }

@@ -1,4 +1,4 @@
-//! What one line of a listing sets, by its words.
+//! Parses the words of one line of a listing.
 
 ghost use Rattle.std.specs.Prelude.{◌≡◌, ◌+◌, ◌*◌, ◌/◌, ◌-◌, ◌^◌, ◌<◌, ◌≤◌, ◌==◌, ◌&&◌, true, [], ◌∷◌, length, None, IfOk, IfSome, bytes_eq};
 ghost use Rattle.std.specs.Result.{result_ok};
@@ -19,7 +19,7 @@ use crate::setting::Setting;
 use pmp_encoding::Xlen;
 use text_lines::{NotUnderstood, Words, begins_with, is_text, number, numeral};
 
-/// What two words set.
+/// Parses a setting of two words.
 fn set_by_two(xlen: Xlen, name: &[u8], value: &[u8]) -> Option<Setting>
     ensures value { result ≡ set_by_words xlen (name.now ∷ value.now ∷ []) }
     ensures inside { IfSome result (IsInside xlen) }
@@ -28,7 +28,7 @@ fn set_by_two(xlen: Xlen, name: &[u8], value: &[u8]) -> Option<Setting>
     named_setting(xlen, name, value)
 }
 
-/// What the number of an entry and two words set.
+/// Parses the pair of an entry, given its number and two words.
 fn pair_by_words(xlen: Xlen, place: u64, cfg: &[u8], address: &[u8]) -> Option<Setting>
     ensures value { result ≡ pair_by_words xlen place cfg.now address.now }
     ensures inside { IfSome result (IsInside xlen) }
@@ -38,7 +38,7 @@ fn pair_by_words(xlen: Xlen, place: u64, cfg: &[u8], address: &[u8]) -> Option<S
     pair_setting(xlen, place, cfg, address)
 }
 
-/// What the name of a register and a word set.
+/// Parses the setting of a register, given its name and a word.
 fn register_by_word(xlen: Xlen, name: &[u8], value: &[u8]) -> Option<Setting>
     ensures value { result ≡ register_by_word xlen name.now value.now }
     ensures inside { IfSome result (IsInside xlen) }
@@ -47,7 +47,7 @@ fn register_by_word(xlen: Xlen, name: &[u8], value: &[u8]) -> Option<Setting>
     register_setting(xlen, name, value)
 }
 
-/// Where a word has an equals sign, or how long it is.
+/// Returns the index of the equals sign of a word, or the word's length.
 fn equals_at(word: &[u8]) -> usize
     ensures within { result ≤ length word.now }
     ensures place { result ≡ equals_at word.now }
@@ -60,7 +60,7 @@ fn equals_at(word: &[u8]) -> usize
     word.len()
 }
 
-/// What one word sets: a register and its value with an equals sign between them.
+/// Parses a setting of one word: a register and its value, separated by an equals sign.
 fn set_by_one(xlen: Xlen, word: &[u8]) -> Option<Setting>
     ensures value { result ≡ set_by_words xlen (word.now ∷ []) }
     ensures inside { IfSome result (IsInside xlen) }
@@ -74,7 +74,7 @@ fn set_by_one(xlen: Xlen, word: &[u8]) -> Option<Setting>
     plain_setting(xlen, name, value)
 }
 
-/// Whether a word is the width of the hart's registers in bits, as OpenOCD writes it.
+/// Returns whether a word is the width of the hart's registers in bits, in OpenOCD's notation.
 fn is_width_sign(xlen: Xlen, word: &[u8]) -> bool
     ensures { result ≡ bytes_eq word.now (width_sign xlen) }
 {
@@ -84,14 +84,15 @@ fn is_width_sign(xlen: Xlen, word: &[u8]) -> bool
     }
 }
 
-/// Whether a word can be between a name and its value: a sign, or the width of the register.
+/// Returns whether a word can separate a name from its value: a sign, or the width of the register.
 fn is_between(xlen: Xlen, word: &[u8]) -> bool
     ensures { result ≡ is_between xlen word.now }
 {
     is_text(word, b":") || is_text(word, b"=") || is_width_sign(xlen, word)
 }
 
-/// The word of the value: the second, and gdb's third has the same in decimal.
+/// Returns the word of the value: the second, unless that is a separator. In gdb's output the third word is the same
+/// value in decimal.
 fn value_word<'a>(xlen: Xlen, second: &'a [u8], third: &'a [u8]) -> &'a [u8]
     ensures { result.now ≡ value_word xlen second.now third.now }
 {
@@ -102,7 +103,7 @@ fn value_word<'a>(xlen: Xlen, second: &'a [u8], third: &'a [u8]) -> &'a [u8]
     }
 }
 
-/// Whether a column says the number of a register in decimal: its bits, or with their sign.
+/// Returns whether a column is the value of a register in decimal, as an unsigned or signed number.
 fn says_number(xlen: Xlen, value: u64, column: &[u8]) -> bool
     requires { 0 < value }
     ensures { result ≡ says_number xlen value column.now }
@@ -119,7 +120,7 @@ fn says_number(xlen: Xlen, value: u64, column: &[u8]) -> bool
     }
 }
 
-/// The number that gdb prints behind a minus sign for the bits of a register.
+/// Returns the number that gdb prints after a minus sign for the bits of a register.
 fn negative(xlen: Xlen, value: u64) -> u64
     requires { 0 < value }
     ensures { result ≡ 2 ^ xlen_bits xlen - value }
@@ -130,7 +131,7 @@ fn negative(xlen: Xlen, value: u64) -> u64
     }
 }
 
-/// Whether a number is there, and is this one.
+/// Returns whether there is a number and it is equal to `value`.
 fn is_number(value: u64, number: Option<u64>) -> bool
     ensures { result ≡ is_number value number }
 {
@@ -140,7 +141,7 @@ fn is_number(value: u64, number: Option<u64>) -> bool
     }
 }
 
-/// Whether a column says the number that a word spells.
+/// Returns whether a column is the same number as the value of a word.
 fn says_same(xlen: Xlen, value: Option<u64>, column: &[u8]) -> bool
     ensures { result ≡ says_same xlen value column.now }
 {
@@ -151,7 +152,7 @@ fn says_same(xlen: Xlen, value: Option<u64>, column: &[u8]) -> bool
     }
 }
 
-/// How many hexadecimal digits a register has, and the `0x` before them.
+/// Returns the number of characters of a full register value: `0x` and its hexadecimal digits.
 fn full_len(xlen: Xlen) -> usize
     ensures { result ≡ 2 + xlen_bits xlen / 4 }
 {
@@ -161,7 +162,7 @@ fn full_len(xlen: Xlen) -> usize
     }
 }
 
-/// Whether what a tool prints twice of a register of the protection agrees.
+/// Returns whether the two representations of a PMP register's value agree, if a tool prints two.
 fn agrees_twice(xlen: Xlen, name: &[u8], second: &[u8], third: &[u8]) -> bool
     ensures { result ≡ agrees_twice xlen name.now second.now third.now }
 {
@@ -174,7 +175,7 @@ fn agrees_twice(xlen: Xlen, name: &[u8], second: &[u8], third: &[u8]) -> bool
     is_between(xlen, second) || says_same(xlen, unpadded(second), third)
 }
 
-/// What a register sets that has three words: after its value comes no name of another.
+/// Parses a register of three words. The name of another register must not follow its value.
 fn register_alone(xlen: Xlen, first: &[u8], second: &[u8], third: &[u8]) -> Option<Setting>
     ensures value { result ≡ set_by_three xlen None first.now second.now third.now }
     ensures inside { IfSome result (IsInside xlen) }
@@ -186,7 +187,7 @@ fn register_alone(xlen: Xlen, first: &[u8], second: &[u8], third: &[u8]) -> Opti
     }
 }
 
-/// What three words set: a pair, or a register.
+/// Parses a setting of three words: a pair, or a register.
 fn set_by_three(xlen: Xlen, first: &[u8], second: &[u8], third: &[u8]) -> Option<Setting>
     ensures value { result ≡ set_by_words xlen (first.now ∷ second.now ∷ third.now ∷ []) }
     ensures inside { IfSome result (IsInside xlen) }
@@ -197,14 +198,14 @@ fn set_by_three(xlen: Xlen, first: &[u8], second: &[u8], third: &[u8]) -> Option
     }
 }
 
-/// Whether a word cannot be the name of another register of the protection.
+/// Returns whether a word cannot be the name of another PMP register.
 fn is_no_name(word: &[u8]) -> bool
     ensures { result ≡ is_no_name word.now }
 {
     !is_about_pmp(word)
 }
 
-/// Whether none of the words is such a name.
+/// Returns whether none of the words can be such a name.
 fn are_no_names(words: Words<'_>) -> bool
     ensures { result ≡ list_all is_no_name (split_words words.entry.rest.now) }
 {
@@ -217,7 +218,7 @@ fn are_no_names(words: Words<'_>) -> bool
     true
 }
 
-/// What the name of another register and a word set.
+/// Parses the setting of another register, given its name and a word.
 fn other_by_word(name: &[u8], value: &[u8]) -> Option<Setting>
     ensures value { result ≡ option_and_then (other_setting (without_colon name.now))
         (number_of value.now) }
@@ -227,7 +228,7 @@ fn other_by_word(name: &[u8], value: &[u8]) -> Option<Setting>
     other_setting(without_colon(name), value)
 }
 
-/// What four and more words set: another register, with its fields after its value.
+/// Parses a setting of four or more words: another register, with its fields after its value.
 fn set_by_many(first: &[u8], second: &[u8], third: &[u8], rest: Words<'_>) -> Option<Setting>
     ensures value { result ≡ set_by_many first.now second.now
         (third.now ∷ split_words rest.entry.rest.now) }
@@ -240,7 +241,7 @@ fn set_by_many(first: &[u8], second: &[u8], third: &[u8], rest: Words<'_>) -> Op
     }
 }
 
-/// Whether one word is left, which OpenOCD writes behind a value that was changed and not yet written.
+/// Returns whether one word is left, with which OpenOCD marks a value that was changed but not yet written.
 fn is_dirty(mut words: Words<'_>) -> bool
     ensures { result ≡ is_dirty (split_words words.entry.rest.now) }
 {
@@ -253,7 +254,7 @@ fn is_dirty(mut words: Words<'_>) -> bool
     }
 }
 
-/// What words set.
+/// Parses the words of a setting.
 fn set_by_words(xlen: Xlen, mut words: Words<'_>) -> Option<Setting>
     ensures value { result ≡ set_by_words xlen (split_words words.entry.rest.now) }
     ensures inside { IfSome result (IsInside xlen) }
@@ -278,7 +279,7 @@ fn set_by_words(xlen: Xlen, mut words: Words<'_>) -> Option<Setting>
     }
 }
 
-/// Whether a byte can follow the first of such a number: a digit, or the last parenthesis.
+/// Returns whether a byte can follow the first of such a number: a digit, or the closing parenthesis.
 fn is_index_byte(b: u8) -> bool
     ensures { result ≡ is_index_byte b }
 {
@@ -291,7 +292,7 @@ fn are_index_bytes(bytes: &[u8]) -> bool
     bytes.iter().all(|b| is_index_byte(*b))
 }
 
-/// Whether a word is the number under which OpenOCD lists a register.
+/// Returns whether a word is the number under which OpenOCD lists a register.
 fn is_index(word: &[u8]) -> bool
     ensures { result ≡ is_index word.now }
 {
@@ -301,7 +302,7 @@ fn is_index(word: &[u8]) -> bool
     *first == b'(' && are_index_bytes(rest)
 }
 
-/// Words without such a number before them.
+/// Skips such a number at the front of words.
 fn without_index(words: Words<'_>) -> Words<'_>
     ensures { split_words result.rest.now ≡ without_index (split_words words.entry.rest.now) }
 {
@@ -312,14 +313,14 @@ fn without_index(words: Words<'_>) -> Words<'_>
     }
 }
 
-/// Whether a word comes in the place of a value that is no number.
+/// Returns whether a word replaces a value that is not available as a number.
 fn has_no_number(word: &[u8]) -> bool
     ensures { result ≡ has_no_number word.now }
 {
     is_text(word, b"<unavailable>") || (begins_with(word, b"{") || begins_with(word, b"(/"))
 }
 
-/// Whether a word is a heading of OpenOCD, or the name of another register.
+/// Returns whether a word is a heading of OpenOCD, or the name of another register.
 fn is_other_name(word: &[u8]) -> bool
     ensures { result ≡ is_other_name word.now }
 {
@@ -327,7 +328,7 @@ fn is_other_name(word: &[u8]) -> bool
     is_text(word, b"=====") || (is_foreign(name) && !names_hart(name))
 }
 
-/// Whether words are passed over without a number.
+/// Returns whether words without a number are ignored.
 fn are_passed(words: Words<'_>) -> bool
     ensures { result ≡ are_passed (split_words words.entry.rest.now) }
 {
@@ -342,7 +343,7 @@ fn are_passed(words: Words<'_>) -> bool
         && (is_other_name(first) && (has_no_number(second) || is_text(first, b"=====")))
 }
 
-/// Whether words are the heading that OpenOCD prints above the registers of a hart.
+/// Returns whether words are the heading that OpenOCD prints above the registers of a hart.
 fn is_heading(mut words: Words<'_>) -> bool
     ensures { result ≡ is_heading (split_words words.entry.rest.now) }
 {
@@ -358,7 +359,7 @@ fn is_heading(mut words: Words<'_>) -> bool
     is_text(sign, b"=====") && (is_text(first, b"RISC-V") && is_text(second, b"Registers"))
 }
 
-/// What words set, or that they are passed over.
+/// Parses the words of a line, which may be ignored.
 fn set_or_passed(xlen: Xlen, words: Words<'_>) -> Option<Setting>
     ensures value { result ≡ set_or_passed xlen (split_words words.entry.rest.now) }
     ensures inside { IfSome result (IsInside xlen) }
@@ -372,7 +373,7 @@ fn set_or_passed(xlen: Xlen, words: Words<'_>) -> Option<Setting>
     set_by_words(xlen, words)
 }
 
-/// What a line sets, where it is understood, by the width of the hart's registers.
+/// Parses a line, for a hart with registers of this width.
 pub fn line_sets(xlen: Xlen, line: &[u8]) -> Result<Setting, NotUnderstood>
     ensures value { result_ok result ≡ line_sets xlen line.now }
     ensures inside { IfOk result (IsInside xlen) }

@@ -1,4 +1,4 @@
-//! What a register of a name and a value sets, and what the pair of an entry sets.
+//! The settings of registers and of entries' pairs.
 
 ghost use Rattle.std.specs.Prelude.{◌≡◌, ◌+◌, ◌*◌, ◌/◌, ◌%◌, ◌≤◌, ◌==◌, ◌&&◌, true, nat_lt, [], None, IfSome};
 ghost use Rattle.pmp_encoding.specs.declared.xlen.Xlen.{Xlen};
@@ -19,7 +19,7 @@ fn has_leading_zero(digits: &[u8]) -> bool
     }
 }
 
-/// The number that decimal digits with no leading zero spell.
+/// Parses decimal digits without a leading zero.
 fn index_of(digits: &[u8]) -> Option<u64>
     ensures { result ≡ index_of digits.now }
 {
@@ -43,7 +43,7 @@ fn address_setting(digits: &[u8], value: u64) -> Option<Setting>
     })
 }
 
-/// How many numbers of configuration registers there are for each that a hart has.
+/// Returns the distance between the numbers of configuration registers: 2 on RV64, where the odd ones do not exist.
 fn word_numbers(xlen: Xlen) -> u64
     ensures { result ≡ xlen_bits xlen / 32 }
 {
@@ -53,7 +53,7 @@ fn word_numbers(xlen: Xlen) -> u64
     }
 }
 
-/// Whether a hart has the configuration register of a number.
+/// Returns whether a hart has the configuration register with this number.
 fn is_word(xlen: Xlen, k: u64) -> bool
     ensures value { result ≡ (nat_lt k 16 && k % (xlen_bits xlen / 32) == 0) }
     ensures inside { result ≡ true → 4 * k + word_entries xlen ≤ 64 }
@@ -90,7 +90,8 @@ fn begins_with_letter(name: &[u8]) -> bool
     }
 }
 
-/// Whether a register is not one of the protection by its name: gdb's `pc` and `priv`, or a name that does not begin with `p`.
+/// Returns whether a register is not a PMP register by its name: gdb's `pc` and `priv`, or a name that does not begin
+/// with `p`.
 pub(crate) fn is_foreign(name: &[u8]) -> bool
     ensures { result ≡ is_foreign name.now }
 {
@@ -100,21 +101,22 @@ pub(crate) fn is_foreign(name: &[u8]) -> bool
     begins_with_letter(name) && !begins_with(name, b"p")
 }
 
-/// Whether a register leaves those of the protection their meaning: it is not one of them, or `mseccfgh` where it is zero.
+/// Returns whether a register does not affect the meaning of the PMP registers: it is not one of them, or it is
+/// `mseccfgh` with the value zero.
 fn is_harmless(name: &[u8], value: u64) -> bool
     ensures { result ≡ is_harmless name.now value }
 {
     !is_about_pmp(name) || (value == 0 && is_name(name, b"mseccfgh"))
 }
 
-/// Whether a register is another one, which is passed over.
+/// Returns whether a register is another one, which is ignored.
 fn is_other(name: &[u8], value: u64) -> bool
     ensures { result ≡ is_other name.now value }
 {
     is_foreign(name) && (!names_hart(name) && is_harmless(name, value))
 }
 
-/// What another register sets.
+/// Returns the setting of a register other than `pmpaddrN` and `pmpcfgK`.
 pub(crate) fn other_setting(name: &[u8], value: u64) -> Option<Setting>
     ensures value { result ≡ other_setting name.now value }
     ensures inside { (xlen : Xlen) → IfSome result (IsInside xlen) }
@@ -131,7 +133,7 @@ pub(crate) fn other_setting(name: &[u8], value: u64) -> Option<Setting>
     Some(Setting::Other)
 }
 
-/// A name without the colon that may follow it.
+/// Returns a name without a final colon.
 pub(crate) fn without_colon(name: &[u8]) -> &[u8]
     ensures { result.now ≡ without_colon name.now }
 {
@@ -143,7 +145,7 @@ pub(crate) fn without_colon(name: &[u8]) -> &[u8]
     }
 }
 
-/// What the name of a register and a value set, which the register has to hold.
+/// Returns the setting of a register, given its name and a value that must fit in it.
 pub(crate) fn plain_setting(xlen: Xlen, name: &[u8], value: u64) -> Option<Setting>
     ensures value { result ≡ plain_setting xlen name.now value }
     ensures inside { IfSome result (IsInside xlen) }
@@ -160,7 +162,7 @@ pub(crate) fn plain_setting(xlen: Xlen, name: &[u8], value: u64) -> Option<Setti
     other_setting(name, value)
 }
 
-/// What the name of a register, a colon after it or not, and a value set.
+/// Returns the setting of a register, given its name, which may end in a colon, and its value.
 pub(crate) fn register_setting(xlen: Xlen, name: &[u8], value: u64) -> Option<Setting>
     ensures value { result ≡ register_setting xlen name.now value }
     ensures inside { IfSome result (IsInside xlen) }
@@ -168,7 +170,7 @@ pub(crate) fn register_setting(xlen: Xlen, name: &[u8], value: u64) -> Option<Se
     plain_setting(xlen, without_colon(name), value)
 }
 
-/// What a name and a value set.
+/// Returns the setting for a name and a value.
 pub(crate) fn named_setting(xlen: Xlen, name: &[u8], value: u64) -> Option<Setting>
     ensures value { result ≡ named_setting xlen name.now value }
     ensures inside { IfSome result (IsInside xlen) }
@@ -179,7 +181,7 @@ pub(crate) fn named_setting(xlen: Xlen, name: &[u8], value: u64) -> Option<Setti
     register_setting(xlen, name, value)
 }
 
-/// What the number of an entry and its pair set.
+/// Returns the setting of an entry's pair, given its number.
 pub(crate) fn pair_setting(xlen: Xlen, place: u64, cfg: u64, address: u64) -> Option<Setting>
     ensures value { result ≡ pair_setting xlen place cfg address }
     ensures inside { IfSome result (IsInside xlen) }

@@ -1,4 +1,4 @@
-//! What registers say of accesses.
+//! Judges accesses by registers.
 
 ghost use Rattle.std.specs.Prelude.{◌≡◌, ◌^◌, ◌<◌, IfErr, IfOk, List};
 ghost use Rattle.pmp_encoding.specs.declared.extent.Extent.{Extent};
@@ -15,7 +15,7 @@ use pmp_match::{
 };
 use std::marker::Model;
 
-/// Registers without a reserved value, and what each entry matches.
+/// Registers without a reserved value, and the addresses that each entry matches.
 #[derive(Drop)]
 pub struct Rules {
     registers: Registers,
@@ -34,7 +34,7 @@ impl Model for Rules {
 }
 
 impl Rules {
-    /// The rules of registers whose entries match this.
+    /// Returns the rules of registers whose entries match these addresses.
     pub(crate) fn by(registers: &Registers, extents: [Extent; 64]) -> Rules
         requires { AreExtents registers.now extents }
         ensures { result ≡ registers.now }
@@ -45,7 +45,7 @@ impl Rules {
         }
     }
 
-    /// The rules of registers, or the first entry that has a reserved value, by which they say nothing.
+    /// Returns the rules of registers, or the first entry with a reserved value, because of which they mean nothing.
     pub fn of(registers: &Registers) -> Result<Rules, ReservedAt>
         ensures registers { IfOk result (λ rules. rules ≡ registers.now) }
         ensures extents { IfOk result (λ _.
@@ -58,7 +58,7 @@ impl Rules {
         }
     }
 
-    /// The outcome of the access under the registers. It looks at nothing else, and takes no memory.
+    /// Returns the outcome of the access under the registers. Depends on nothing else, and does not allocate.
     pub fn judge(&self, access: &Access) -> Result<(), Cause>
         ensures { RegistersJudge self.now access.now result }
     {
@@ -74,7 +74,7 @@ impl Rules {
         Ok(())
     }
 
-    /// The entry that decides the access, where one does.
+    /// Returns the entry that decides the access, if there is one.
     pub fn first_met(&self, access: &Access) -> Option<Decider>
         requires { access.now.address < 2 ^ 56 }
         ensures { by_entry self.now access.now result }

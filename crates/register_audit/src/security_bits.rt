@@ -1,18 +1,18 @@
-//! Which bits of `mseccfg` are about PMP.
+//! Classification of the bits of `mseccfg`.
 
 ghost use Rattle.std.specs.Prelude.{◌≡◌, ◌<◌};
 ghost use Rattle.register_audit.specs.SecurityBits.{foreign_bit, has_bit, is_foreign_bit, is_of_sort, lowest_bit, unknown_bit};
 
-/// Bits of `mseccfg` that are not of Smepmp.
+/// A class of bits of `mseccfg` that do not belong to Smepmp.
 #[derive(Clone, Copy)]
 enum BitSort {
     /// A bit of another extension.
     Foreign,
-    /// A bit that no extension gives.
+    /// A bit that no extension defines.
     Unknown,
 }
 
-/// Whether a bit is of another extension than Smepmp: USEED, SSEED, MLPE and PMM.
+/// Returns whether a bit belongs to an extension other than Smepmp: USEED, SSEED, MLPE and PMM.
 fn is_foreign_bit(bit: u8) -> bool
     ensures { result ≡ is_foreign_bit bit }
 {
@@ -28,7 +28,7 @@ fn is_of_sort(sort: BitSort, bit: u8) -> bool
     }
 }
 
-/// Whether a bit of a value is 1 and of that sort.
+/// Returns whether a bit of a value is 1 and of this class.
 fn has_bit(sort: BitSort, value: u64, bit: u8) -> bool
     requires { bit < 64 }
     ensures { result ≡ has_bit sort value bit }
@@ -36,7 +36,7 @@ fn has_bit(sort: BitSort, value: u64, bit: u8) -> bool
     (value >> bit) % 2 == 1 && is_of_sort(sort, bit)
 }
 
-/// The lowest bit of that sort that is 1.
+/// Returns the lowest bit of this class that is 1.
 fn lowest_bit(sort: BitSort, value: u64) -> Option<u8>
     ensures { result ≡ lowest_bit sort value }
 {
@@ -48,14 +48,14 @@ fn lowest_bit(sort: BitSort, value: u64) -> Option<u8>
     None
 }
 
-/// The lowest bit of `mseccfg` that is 1 and that no extension gives, where there is one.
+/// Returns the lowest bit of `mseccfg` that is 1 and that no extension defines, if there is one.
 pub fn unknown_bit(mseccfg: u64) -> Option<u8>
     ensures { result ≡ unknown_bit mseccfg }
 {
     lowest_bit(BitSort::Unknown, mseccfg)
 }
 
-/// The lowest bit of `mseccfg` that is 1 and that is not about PMP, where there is one.
+/// Returns the lowest bit of `mseccfg` that is 1 and not about PMP, if there is one.
 pub(crate) fn foreign_bit(mseccfg: u64) -> Option<u8>
     ensures { result ≡ foreign_bit mseccfg }
 {

@@ -1,4 +1,4 @@
-//! What a line of a listing sets, and what the listing says after it.
+//! The setting of a line of a listing, and its effect on the listing.
 
 ghost use Rattle.std.specs.Prelude.{◌≡◌, ◌<◌, ◌≤◌, ◌+◌, ◌-◌, ◌^◌};
 ghost use Rattle.pmp_encoding.specs.Widths.{word_entries};
@@ -9,33 +9,33 @@ use crate::listing::Listing;
 use pmp_encoding::Xlen;
 use pmp_match::{Registers, Security};
 
-/// What a line sets. Places are below 64.
+/// The setting of a line. Entry numbers are below 64.
 #[derive(Clone, Copy, Debug, PartialEq, Eq)]
 pub enum Setting {
     /// A line without words.
     Nothing,
-    /// How many entries are listed, each by its pair.
+    /// The number of entries that are listed as pairs.
     Count {
-        /// How many.
+        /// The number.
         entries: u64,
     },
-    /// Another register, which is passed over.
+    /// Another register, which is ignored.
     Other,
-    /// `mhartid`, the number of the hart, which is passed over.
+    /// `mhartid`, the number of the hart, which is ignored.
     Hart {
         /// The number.
         number: u64,
     },
-    /// The heading of OpenOCD above the registers of a hart, which is passed over.
+    /// The heading of OpenOCD above the registers of a hart, which is ignored.
     Heading,
-    /// How many entries the hart has, as a boot log says.
+    /// The number of the hart's entries, from a boot log.
     Limit {
-        /// How many.
+        /// The number.
         entries: u64,
     },
     /// `mseccfg`, the register of Smepmp.
     Security {
-        /// What it holds.
+        /// Its value.
         value: u64,
     },
     /// The pair of an entry.
@@ -51,19 +51,19 @@ pub enum Setting {
     Address {
         /// The number of the entry.
         place: usize,
-        /// What it holds.
+        /// Its value.
         value: u64,
     },
     /// A configuration word: the bytes of four entries on RV32, and of eight on RV64.
     Word {
         /// The number of the first entry.
         place: usize,
-        /// What it holds, the lowest byte first.
+        /// Its value, the lowest byte first.
         value: u64,
     },
 }
 
-/// What no line has set.
+/// Returns the listing before the first line.
 pub(crate) fn nothing_set(xlen: Xlen) -> Listing
     ensures { result ≡ nothing_set xlen }
 {
@@ -86,7 +86,7 @@ pub(crate) fn nothing_set(xlen: Xlen) -> Listing
     }
 }
 
-/// The first line that is passed over, where line n is one.
+/// Returns the first ignored line, given that line n is ignored.
 fn first_of(passed: Option<u64>, n: u64) -> Option<u64>
     ensures { result ≡ first_of passed n }
 {
@@ -96,7 +96,7 @@ fn first_of(passed: Option<u64>, n: u64) -> Option<u64>
     }
 }
 
-/// The bytes with `count` of a word's put in place, the lowest first.
+/// Returns the bytes with `count` bytes of a word stored from an index on, the lowest first.
 fn with_word(cfgs: [u8; 64], place: usize, count: usize, value: u64) -> [u8; 64]
     requires { place + count ≤ 64 }
     ensures { result ≡ set_bytes place count value cfgs }
@@ -110,7 +110,7 @@ fn with_word(cfgs: [u8; 64], place: usize, count: usize, value: u64) -> [u8; 64]
     bytes
 }
 
-/// Whether an entry is the first or the next of a counted list, or the list is not counted.
+/// Returns whether an entry is the first or the next of a counted list, or the list is not counted.
 fn is_next(entries: Option<u64>, last: Option<u64>, place: u64) -> bool
     ensures { result ≡ is_next entries last place }
 {
@@ -120,7 +120,7 @@ fn is_next(entries: Option<u64>, last: Option<u64>, place: u64) -> bool
     }
 }
 
-/// Whether a hart of so many entries has this one.
+/// Returns whether a hart with this number of entries has the entry.
 fn is_within(limit: Option<u64>, place: u64) -> bool
     ensures { result ≡ is_within limit place }
 {
@@ -130,7 +130,7 @@ fn is_within(limit: Option<u64>, place: u64) -> bool
     }
 }
 
-/// Whether no other hart was named before.
+/// Returns whether no other hart was named before.
 fn is_same_hart(hart: Option<u64>, number: u64) -> bool
     ensures { result ≡ is_same_hart hart number }
 {
@@ -141,7 +141,7 @@ fn is_same_hart(hart: Option<u64>, number: u64) -> bool
 }
 
 impl Setting {
-    /// The registers after the setting, where it sets one of the protection.
+    /// Returns the PMP registers after the setting.
     fn registers(self, registers: &Registers) -> Registers
         requires { IsInside registers.now.xlen self }
         ensures { result ≡ registers_by registers.now self }
@@ -172,7 +172,7 @@ impl Setting {
         registers
     }
 
-    /// `mseccfg` after it.
+    /// Returns `mseccfg` after the setting.
     fn security(self, mseccfg: u64) -> u64
         ensures { result ≡ security_by mseccfg self }
     {
@@ -182,7 +182,7 @@ impl Setting {
         }
     }
 
-    /// The first line that is passed over after it, where it is that of line n.
+    /// Returns the first ignored line after the setting, which is that of line n.
     fn passed(self, passed: Option<u64>, n: u64) -> Option<u64>
         ensures { result ≡ passed_by passed n self }
     {
@@ -192,7 +192,7 @@ impl Setting {
         }
     }
 
-    /// How many entries should be listed after it.
+    /// Returns the stated number of pairs after the setting.
     fn count(self, entries: Option<u64>) -> Option<u64>
         ensures { result ≡ count_by entries self }
     {
@@ -202,7 +202,7 @@ impl Setting {
         }
     }
 
-    /// How many pairs are listed after it.
+    /// Returns the number of pairs after the setting.
     fn pairs(self, pairs: u64) -> u64
         requires { pairs < 2 ^ 64 - 1 }
         ensures { result ≡ pairs_by pairs self }
@@ -213,7 +213,7 @@ impl Setting {
         }
     }
 
-    /// Whether it is about the protection.
+    /// Returns whether the setting is about PMP.
     fn is_of_pmp(self) -> bool
         ensures { result ≡ is_of_pmp self }
     {
@@ -227,7 +227,7 @@ impl Setting {
         )
     }
 
-    /// The entry of the last pair after it.
+    /// Returns the entry of the last pair after the setting.
     fn last(self, last: Option<u64>) -> Option<u64>
         ensures { result ≡ last_by last self }
     {
@@ -237,7 +237,7 @@ impl Setting {
         }
     }
 
-    /// The hart's number after it.
+    /// Returns the hart's number after the setting.
     fn hart(self, hart: Option<u64>) -> Option<u64>
         ensures { result ≡ hart_by hart self }
     {
@@ -247,7 +247,7 @@ impl Setting {
         }
     }
 
-    /// Whether a heading has come after it.
+    /// Returns whether a heading was read, after the setting.
     fn is_headed(self, is_headed: bool) -> bool
         ensures { result ≡ headed_by is_headed self }
     {
@@ -257,7 +257,7 @@ impl Setting {
         }
     }
 
-    /// How many entries the hart has, after it.
+    /// Returns the number of the hart's entries after the setting.
     fn limit(self, limit: Option<u64>) -> Option<u64>
         ensures { result ≡ limit_by limit self }
     {
@@ -267,7 +267,7 @@ impl Setting {
         }
     }
 
-    /// Whether it agrees with the lines before it.
+    /// Returns whether the setting agrees with the lines before it.
     pub(crate) fn agrees(self, listing: &Listing) -> bool
         ensures { result ≡ agrees listing.now self }
     {
@@ -284,7 +284,7 @@ impl Setting {
         }
     }
 
-    /// What the listing says after the setting of line n.
+    /// Returns the listing after the setting of line n.
     pub(crate) fn of(self, listing: &Listing, n: u64) -> Listing
         requires inside { IsInside listing.now.registers.xlen self }
         requires few { listing.now.pairs < 2 ^ 64 - 1 }

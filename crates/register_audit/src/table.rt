@@ -20,14 +20,14 @@ use pmp_match::Mode;
 use std::alloc::Global;
 use text_lines::{Sink, write_whole};
 
-/// What is said of registers, and whether they mean something.
+/// The text about registers, and whether they mean something.
 #[derive(Drop)]
 struct Shown {
     text: Vec<u8>,
     meant: bool,
 }
 
-/// What is said of what a listing leaves, for a mode. The only error is out of memory.
+/// Returns the text about a listing, for a mode. The only error is a failed allocation.
 fn said_of(alloc: Global, mode: Mode, listing: &Listing) -> Result<Shown, Memory>
     ensures { IfOk result (λ shown. IsShown listing.now shown.meant) }
 {
@@ -43,14 +43,14 @@ fn said_of(alloc: Global, mode: Mode, listing: &Listing) -> Result<Shown, Memory
     let rest = default_perm(registers, mode);
     let on = count_on(registers);
     let end = registers.xlen.space_end();
-    let text = extent_table(alloc, given.as_slice(), end, rest, on)?;
+    let text = extent_table(alloc, given.as_slice(), end, rest, on, &registers.cfgs)?;
     Ok(Shown { text, meant: true })
 }
 
-/// Reads a listing of registers of that width, and writes the table of what they give a mode, or the line that says why they
-/// mean nothing; and after it comments on what is passed over. The answer is whether they mean something. Where a line is not
-/// understood or memory is refused, nothing is written; where the device failed, or took none of some bytes, a beginning of the
-/// text was written, not all of it.
+/// Reads a listing of registers with this width, and writes the table of the permissions that they grant a mode, or the
+/// line with the reason why they mean nothing. Comments on ignored lines follow. Returns whether they mean something.
+/// If a line is invalid or an allocation fails, nothing is written; if the device fails, or accepts no bytes, only a
+/// beginning of the text was written.
 pub fn print_registers<W: Sink>(
     alloc: Global,
     mode: Mode,

@@ -1,5 +1,6 @@
-//! The lines of an audit, for people.
+//! Human-readable lines of an audit.
 
+use crate::fewest::Fewest;
 use crate::listing_texts::{Words, line_of, reserved_line};
 use crate::verdict::Verdict;
 use map_table::Stretch;
@@ -11,7 +12,7 @@ use text_lines::Line;
 /// The number of entries of a hart.
 const ENTRIES: usize = 64;
 
-/// The line about a stretch on which the map and the registers differ.
+/// Returns the line about a stretch on which the map and the registers differ.
 pub(crate) fn stretch_line(stretch: &Stretch) -> Line {
     let first = stretch.first;
     let last = stretch.end.saturating_sub(1);
@@ -30,24 +31,39 @@ pub(crate) fn stretch_line(stretch: &Stretch) -> Line {
     line_of(&words)
 }
 
-/// The line about registers that mean the map. For supervisor and user mode it also has the fewest entries that do.
-fn means_line(mode: Mode, fewest: u64, count: usize) -> Line {
+/// Writes how many entries are enough for the map, given the number of entries in use: the fewest NA4 and NAPOT entries,
+/// and the fewest with a chain of TOR entries if these are fewer.
+fn write_fewest(words: &mut Words, fewest: Fewest, count: u64) {
+    let Fewest { blocks, chained } = fewest;
+    let _ = if chained >= blocks {
+        write!(words, "; fewest NA4/NAPOT entries: {blocks}")
+    } else if chained > count {
+        write!(
+            words,
+            "; fewest NA4/NAPOT entries: {blocks}, before a TOR chain: {chained}"
+        )
+    } else {
+        let are = if chained == 1 { "is" } else { "are" };
+        write!(
+            words,
+            " where {chained} {are} enough ({blocks} without TOR)"
+        )
+    };
+}
+
+/// Returns the line about registers that mean the map. For supervisor and user mode it includes the fewest entries.
+fn means_line(mode: Mode, fewest: Fewest, count: usize) -> Line {
     let entries = if count == 1 { "entry" } else { "entries" };
     let mut words = Words::new();
     let _ = write!(words, "means the map: {count} {entries}");
     if mode != Mode::Machine {
-        let enough = if fewest == 1 {
-            "is enough"
-        } else {
-            "are enough"
-        };
-        let _ = write!(words, " where {fewest} {enough}");
+        write_fewest(&mut words, fewest, count as u64);
     }
     let _ = writeln!(words);
     line_of(&words)
 }
 
-/// The line about eight bytes that an entry cuts.
+/// Returns the line about eight bytes that an entry cuts.
 fn cut_line(entry: usize, at: u64) -> Line {
     let last = at.saturating_add(7);
     let mut words = Words::new();
@@ -58,10 +74,10 @@ fn cut_line(entry: usize, at: u64) -> Line {
     line_of(&words)
 }
 
-/// The line of a verdict on registers for a mode. `fewest` entries are enough for the map.
+/// Returns the line of a verdict on registers for a mode. `fewest` has the fewest entries for the map.
 pub(crate) fn verdict_line(
     mode: Mode,
-    fewest: u64,
+    fewest: Fewest,
     registers: &Registers,
     verdict: &Verdict,
 ) -> Line {

@@ -1,4 +1,4 @@
-//! Registers against a map.
+//! Compares registers with a map.
 
 ghost use Rattle.std.specs.Prelude.{◌≡◌, ℕ, ◌≤◌, IfOk};
 ghost use Rattle.permission_map.specs.Runs.{view_of_runs};
@@ -12,28 +12,28 @@ use permission_map::{Memory, PermissionMap};
 use pmp_match::{Mode, Registers, ReservedAt, extents_of};
 use std::alloc::Global;
 
-/// Whether registers mean a map, and where they do not.
+/// The result of comparing registers with a map.
 #[derive(Clone, Copy)]
 pub enum Verdict {
-    /// They mean it, with this many entries.
+    /// They mean it, with this number of entries.
     Means {
-        /// How many of them are not OFF.
+        /// The number of entries that are not OFF.
         count: usize,
     },
     /// The first stretch on which they give another permission than the map.
     Differs(Stretch),
     /// They give each byte the map's permission, but cut an access that the map lets through.
     Cuts {
-        /// The number of the first entry by which one is cut.
+        /// The number of the first entry that cuts one.
         entry: usize,
         /// The lowest byte of the lowest eight that it cuts.
         at: u64,
     },
-    /// The first entry that has a reserved value, by which they mean nothing.
+    /// The first entry with a reserved value, because of which they mean nothing.
     NoMeaning(ReservedAt),
 }
 
-/// 0 for an entry that is OFF, and 1 for another.
+/// Returns 0 for an entry that is OFF, otherwise 1.
 fn one_on(cfg: u8) -> usize
     ensures value { result ≡ one_on cfg }
     ensures most { result ≤ 1 }
@@ -41,7 +41,7 @@ fn one_on(cfg: u8) -> usize
     if cfg / 8 % 4 == 0 { 0 } else { 1 }
 }
 
-/// How many entries are not OFF.
+/// Counts the entries that are not OFF.
 pub fn count_on(registers: &Registers) -> usize
     ensures { result ≡ count_on registers.now.cfgs }
 {
@@ -52,7 +52,7 @@ pub fn count_on(registers: &Registers) -> usize
     count
 }
 
-/// What the registers say of a map for a mode. The only error is out of memory.
+/// Compares registers with a map, for a mode. The only error is a failed allocation.
 pub fn verdict_of(
     alloc: Global,
     mode: Mode,

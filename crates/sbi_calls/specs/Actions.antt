@@ -1,4 +1,4 @@
--- A decision as firmware in C has it: the numbers of what is done.
+-- Decisions for firmware in C: the number of each action.
 use Rattle.std.specs.Prelude.{ℕ}
 use Rattle.sbi_calls.specs.declared.action.Action.{Action}
 use Rattle.sbi_calls.specs.declared.decision.Decision.{Decision}
@@ -13,7 +13,7 @@ use Rattle.sbi_calls.specs.declared.outcome.Outcome.TheVariants.{StopHart, ShutD
 use Rattle.sbi_calls.specs.declared.outcome.Outcome.TheVariants.{Monitor}
 use Rattle.sbi_calls.specs.Errors.{error_word}
 
--- what is done with a subject, and is answered SBI_SUCCESS and 0 where it is answered
+-- an action on a subject, which returns SBI_SUCCESS and 0 if it returns
 abbrev pub plain : ℕ → ℕ → Action
 plain kind subject = record {
   kind = kind;
@@ -24,7 +24,7 @@ plain kind subject = record {
   opaque = 0;
 }
 
--- an answer, and nothing else
+-- an action that only returns an answer
 abbrev pub answer : ℕ → ℕ → Action
 answer error value = record {
   kind = 3;
@@ -35,7 +35,7 @@ answer error value = record {
   opaque = 0;
 }
 
--- what a call of the host comes to
+-- the action for the outcome of a host's call
 abbrev pub outcome_action : Outcome → Action
 outcome_action (Value value) = answer 0 value
 outcome_action (Error error) = answer (error_word error) 0
@@ -58,7 +58,7 @@ outcome_action Fail = plain 12 0
 outcome_action Reboot = plain 13 0
 outcome_action Monitor = plain 14 0
 
--- what is done at a trap
+-- the action at a trap
 abbrev pub action_of : Decision → Action
 action_of GoOn = plain 0 0
 action_of Tick = plain 1 0

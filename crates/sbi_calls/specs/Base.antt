@@ -1,4 +1,4 @@
--- What a host asks that changes nothing.
+-- The host's calls that query SBI or the hart and change nothing.
 use Rattle.std.specs.Prelude.{ℕ, ◌==◌, if◌then◌else◌, is_some}
 use Rattle.sbi_calls.specs.declared.caller.Caller.{Caller}
 use Rattle.sbi_calls.specs.declared.outcome.Outcome.{Outcome}
@@ -6,7 +6,7 @@ use Rattle.sbi_calls.specs.declared.outcome.Outcome.TheVariants.{Value, Error}
 use Rattle.sbi_calls.specs.declared.error.SbiError.TheVariants.{NotSupported}
 use Rattle.sbi_calls.specs.Extensions.{extension_of}
 
--- 1 where there is an extension of the number, and 0 where there is none
+-- 1 if there is an extension of the number, and 0 if there is not
 abbrev pub is_offered : ℕ → ℕ
 is_offered number = if is_some (extension_of number) then 1 else 0
 
@@ -24,7 +24,7 @@ base_outcome function a0 caller =
     else if function == 6 then Value caller.implementation
     else Error NotSupported
 
--- the functions that say why an enclave stopped on this hart
+-- the functions that report why an enclave stopped on this hart
 abbrev pub stops_outcome : ℕ → Caller → Outcome
 stops_outcome function caller =
     if function == 0 then Value caller.stop_cause

@@ -1,4 +1,4 @@
--- What the firmware does at a trap.
+-- The firmware's decision at a trap.
 use Rattle.std.specs.Prelude.{◌≡◌, ℕ, Bool}
 use Rattle.sbi_decode.specs.declared.world.World.{World}
 use Rattle.sbi_calls.specs.declared.caller.Caller.{Caller}
@@ -22,7 +22,7 @@ use Rattle.sbi_calls.specs.Owners.{owner_of}
 use Rattle.sbi_calls.specs.StartAddresses.{IsExecutable}
 use Rattle.sbi_calls.specs.declared.bank_words.BankWords.{BankWords}
 
--- the decision by whose a trap is: a call is looked at where the host made it, and nowhere else
+-- the decision by the source of a trap: only the host's calls are decoded as such
 abbrev pub decision_of : TrapOwner → HostCall → Caller → Harts → Bool → Decision
 decision_of OtherHart call caller harts executable = GoOn
 decision_of HostTimer call caller harts executable = Tick
@@ -33,18 +33,18 @@ decision_of owners.EnclaveCall call caller harts executable = EnclaveCall
 decision_of EnclaveTimer call caller harts executable = EnclaveTick
 decision_of owners.EnclaveStop call caller harts executable = EnclaveStop
 
--- the decision is what a call of the host comes to
+-- the decision is the outcome of a host's call
 abbrev pub IsOfHost : Decision → Type 0
 IsOfHost (Host outcome) = Unit {0}
 IsOfHost _ = ⊥
 
--- each hart that a decision names is on the board, and one that it starts is stopped
+-- each hart that a decision names is on the board, and a hart that it starts is stopped
 abbrev pub DecidesBoard : Harts → Decision → Type 0
 DecidesBoard harts (Host outcome) = NamesBoard harts outcome
 DecidesBoard harts _ = Unit {0}
 
--- the state of a hart after a decision at a trap of one of them (SBI, chapter 9): that one begins
--- where it was started, a hart is started, or that one stops; and nothing else changes a state
+-- the state of a hart after a decision at a trap of `self` (SBI, chapter 9): `self` begins if it
+-- was started, another hart is started, or `self` stops; nothing else changes a state
 abbrev pub state_after : Decision → ℕ → Harts → ℕ → HartState
 state_after GoOn self harts hart = with_state harts self (begun (state_of harts self)) hart
 state_after (Host (StartHart started address opaque)) self harts hart =
@@ -52,13 +52,13 @@ state_after (Host (StartHart started address opaque)) self harts hart =
 state_after (Host StopHart) self harts hart = with_state harts self Stopped hart
 state_after _ self harts hart = state_of harts hart
 
--- at a trap of a world, of this cause, on the caller's hart, which has these entries, this is the
--- decision; and the states of the harts go from those before to those after
+-- the decision at a trap of this cause in a world, on the caller's hart with these entries, and the
+-- states of the harts before and after
 pub record Decides (world : World) (cause : ℕ) (call : HostCall) (caller : Caller)
     (bank : BankWords) (before after : Harts) (decision : Decision) : Type 0 where
   pub start : (executable : Bool) → IsExecutable bank call.a1 executable
       → decision ≡ decision_of (owner_of world cause) call caller before executable
-  -- entries matter to the start of a hart alone
+  -- entries matter only when a hart is started
   pub others : ¬ IsStart call → (executable : Bool)
       → decision ≡ decision_of (owner_of world cause) call caller before executable
   pub there : DecidesBoard before decision

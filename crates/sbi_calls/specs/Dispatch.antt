@@ -1,4 +1,4 @@
--- A call of the host, by its extension.
+-- The host's calls, by extension.
 use Rattle.std.specs.Prelude.{◌≡◌, ◌%◌, ◌==◌, Bool, Option, Some, None, if◌then◌else◌}
 use Rattle.sbi_calls.specs.declared.caller.Caller.{Caller}
 use Rattle.sbi_calls.specs.declared.error.SbiError.TheVariants.{NotSupported}
@@ -21,15 +21,15 @@ use Rattle.sbi_calls.specs.Srst.{srst_outcome}
 abbrev pub time_outcome : HostCall → Outcome
 time_outcome call = if call.function == 0 then SetTimer call.a0 else Error NotSupported
 
--- of the debug console (version 2.0, chapter 12) the byte that is written alone
+-- the only implemented function of the debug console (version 2.0, chapter 12): it writes a byte
 abbrev pub console_outcome : HostCall → Outcome
 console_outcome call = if call.function == 2 then PutByte (call.a0 % 256) else Error NotSupported
 
--- the call is the start of a hart
+-- the call starts a hart
 abbrev pub IsStart : HostCall → Type 0
 IsStart call = (extension_of call.extension ≡ Some Hsm) × (call.function ≡ 0)
 
--- what a call comes to: whether the host may execute at the address that it names is known
+-- the outcome of a call, where `executable` tells whether the host may execute at the start address
 abbrev pub outcome_by : Option Extension → HostCall → Caller → Harts → Bool → Outcome
 outcome_by (Some Base) call caller harts executable = base_outcome call.function call.a0 caller
 outcome_by (Some Time) call caller harts executable = time_outcome call
@@ -42,7 +42,7 @@ outcome_by (Some extensions.Monitor) call caller harts executable = Monitor
 outcome_by (Some Stops) call caller harts executable = stops_outcome call.function caller
 outcome_by None call caller harts executable = Error NotSupported
 
--- the same, by the number of the extension, in a7
+-- the outcome of a call by the number of its extension, in a7
 abbrev pub outcome_of : HostCall → Caller → Harts → Bool → Outcome
 outcome_of call caller harts executable =
     outcome_by (extension_of call.extension) call caller harts executable

@@ -4,7 +4,7 @@ use Rattle.sbi_calls.specs.declared.error.SbiError.{SbiError}
 use Rattle.sbi_calls.specs.declared.error.SbiError.TheVariants.{NotSupported, InvalidParam}
 use Rattle.sbi_calls.specs.declared.error.SbiError.TheVariants.{InvalidAddress, AlreadyAvailable}
 
--- an error is a number below zero: -n as a word of 64 bits
+-- an error is negative: -n as a word of 64 bits
 abbrev pub minus : ℕ → ℕ
 minus n = 2 ^ 64 - n
 

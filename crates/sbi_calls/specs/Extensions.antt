@@ -4,9 +4,9 @@ use Rattle.sbi_calls.specs.declared.extension.Extension.{Extension}
 use Rattle.sbi_calls.specs.declared.extension.Extension.TheVariants.{Base, Time, Ipi, Rfence, Hsm}
 use Rattle.sbi_calls.specs.declared.extension.Extension.TheVariants.{Srst, Console, Monitor, Stops}
 
--- the extension of a number: the letters of its name in ASCII, but for the base extension. The
--- monitor's two are in the experimental space, 0x08000000 to 0x08ffffff, and in the firmware's,
--- 0x0a000000 to 0x0affffff
+-- the extension of a number: its name in ASCII, except for the base extension. The monitor's two
+-- are in the experimental space, 0x08000000 to 0x08ffffff, and in the firmware's, 0x0a000000 to
+-- 0x0affffff
 abbrev pub extension_of : ℕ → Option Extension
 extension_of number =
     if number == 0x10 then Some Base

@@ -11,7 +11,7 @@ state_number Started = 0
 state_number Stopped = 1
 state_number StartPending = 2
 
--- how many harts there are: a word has no more than 64
+-- the number of harts, at most 64 because they are bits of a word
 abbrev pub hart_count : Harts → ℕ
 hart_count harts = min harts.count 64
 
@@ -22,11 +22,11 @@ state_of harts hart =
     else if bit_at harts.pending hart == 1 then StartPending
     else Stopped
 
--- the state of a hart once one of them has another
+-- the state of a hart after the state of one hart has changed
 abbrev pub with_state : Harts → ℕ → HartState → ℕ → HartState
 with_state harts changed state hart = if hart == changed then state else state_of harts hart
 
--- the state of a hart that came: one that was started begins
+-- the state of a hart that begins if it was started
 abbrev pub begun : HartState → HartState
 begun StartPending = Started
 begun Started = Started

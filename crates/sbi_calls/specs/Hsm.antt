@@ -1,4 +1,4 @@
--- The calls by which a host starts and stops harts. (SBI, chapter 9)
+-- The calls that start and stop harts. (SBI, chapter 9)
 use Rattle.std.specs.Prelude.{ℕ, ◌%◌, ◌^◌, ◌&&◌, ◌==◌, Bool, not, nat_lt, if◌then◌else◌}
 use Rattle.sbi_calls.specs.declared.error.SbiError.TheVariants.{AlreadyAvailable, InvalidAddress}
 use Rattle.sbi_calls.specs.declared.error.SbiError.TheVariants.{InvalidParam, NotSupported}
@@ -10,22 +10,21 @@ use Rattle.sbi_calls.specs.declared.outcome.Outcome.{Outcome}
 use Rattle.sbi_calls.specs.declared.outcome.Outcome.TheVariants.{Error, StartHart, StopHart, Value}
 use Rattle.sbi_calls.specs.Harts.{hart_count, state_number, state_of}
 
--- the start of a hart that is on the board, by its state, and by whether the host may execute at
--- the address
+-- starts a hart of the board, by its state and by whether the host may execute at the address
 abbrev pub start_by : HartState → Bool → ℕ → ℕ → ℕ → Outcome
 start_by Started executable hart address opaque = Error AlreadyAvailable
 start_by StartPending executable hart address opaque = Error AlreadyAvailable
 start_by Stopped executable hart address opaque =
     if executable then StartHart hart address opaque else Error InvalidAddress
 
--- the start of a hart: its number is in a0, the address in a1, a word for it in a2
+-- starts a hart: its number is in a0, the address in a1, its `opaque` word in a2
 abbrev pub start_outcome : HostCall → Harts → Bool → Outcome
 start_outcome call harts executable =
     if nat_lt call.a0 (hart_count harts)
     then start_by (state_of harts call.a0) executable call.a0 call.a1 call.a2
     else Error InvalidParam
 
--- the number of the state of a hart
+-- the number of a hart's state
 abbrev pub status_outcome : ℕ → Harts → Outcome
 status_outcome hart harts =
     if nat_lt hart (hart_count harts)
@@ -41,8 +40,7 @@ abbrev pub suspend_outcome : ℕ → Outcome
 suspend_outcome word =
     if is_reserved (word % 2 ^ 32) then Error InvalidParam else Error NotSupported
 
--- the functions for the states of harts: a start, the stop of this hart, a hart's status, and a
--- suspension
+-- the functions for hart states: start a hart, stop this hart, query a hart's status, and suspend
 abbrev pub hsm_outcome : HostCall → Harts → Bool → Outcome
 hsm_outcome call harts executable =
     if call.function == 0 then start_outcome call harts executable

@@ -1,4 +1,4 @@
--- Which harts an outcome names.
+-- The harts that an outcome names.
 use Rattle.std.specs.Prelude.{◌≡◌, ℕ, ◌<◌}
 use Rattle.std.specs.Int.{bit_at}
 use Rattle.sbi_calls.specs.declared.harts.HartState.TheVariants.{Stopped}
@@ -12,7 +12,7 @@ use Rattle.sbi_calls.specs.Harts.{hart_count, state_of}
 abbrev pub AreOnBoard : ℕ → ℕ → Type 0
 AreOnBoard count word = (hart : ℕ) → bit_at word hart ≡ 1 → hart < count
 
--- each hart that the outcome names is on the board, and one that it starts is stopped
+-- each hart that the outcome names is on the board, and a hart that it starts is stopped
 abbrev pub NamesBoard : Harts → Outcome → Type 0
 NamesBoard harts (Interrupt word) = AreOnBoard (hart_count harts) word
 NamesBoard harts (FenceInstructions word) = AreOnBoard (hart_count harts) word

@@ -1,4 +1,4 @@
--- Whose a trap is.
+-- The sources of traps.
 use Rattle.std.specs.Prelude.{ℕ, ◌+◌, ◌^◌, ◌==◌, if◌then◌else◌}
 use Rattle.sbi_decode.specs.declared.world.World.{World}
 use Rattle.sbi_decode.specs.declared.world.World.TheVariants.{Host, Enclave}
@@ -11,11 +11,11 @@ use Rattle.sbi_calls.specs.declared.owner.TrapOwner.TheVariants.{EnclaveTimer, E
 abbrev pub world_of : ℕ → World
 world_of number = if number == 0 then Host else Enclave number
 
--- the cause of an interrupt has bit 63 (Privileged Architecture, mcause)
+-- the cause of an interrupt has bit 63 set (Privileged Architecture, mcause)
 abbrev pub interrupt : ℕ → ℕ
 interrupt number = 2 ^ 63 + number
 
--- machine mode's software interrupt, by which harts ask one another to come
+-- machine mode's software interrupt, with which harts interrupt one another
 abbrev pub software_interrupt : ℕ
 software_interrupt = interrupt 3
 
@@ -23,15 +23,15 @@ software_interrupt = interrupt 3
 abbrev pub timer_interrupt : ℕ
 timer_interrupt = interrupt 7
 
--- the cause of a call of user mode
+-- the cause of an environment call from user mode
 abbrev pub user_call : ℕ
 user_call = 8
 
--- the cause of a call of supervisor mode
+-- the cause of an environment call from supervisor mode
 abbrev pub supervisor_call : ℕ
 supervisor_call = 9
 
--- whose a trap is, by the world that trapped and the cause
+-- the source of a trap, by the world that trapped and the cause
 abbrev pub owner_of : World → ℕ → TrapOwner
 owner_of Host cause =
     if cause == software_interrupt then OtherHart

@@ -1,4 +1,4 @@
--- What a host asks of other harts. (SBI, chapters 7 and 8)
+-- The host's requests to other harts. (SBI, chapters 7 and 8)
 use Rattle.std.specs.Prelude.{ℕ, ◌==◌, Option, Some, None, if◌then◌else◌, bit_and}
 use Rattle.sbi_calls.specs.declared.error.SbiError.TheVariants.{InvalidParam, NotSupported}
 use Rattle.sbi_calls.specs.declared.harts.Harts.{Harts}
@@ -10,11 +10,11 @@ use Rattle.sbi_calls.specs.declared.outcome.Outcome.TheVariants.{FenceTranslatio
 use Rattle.sbi_calls.specs.HartLists.{hart_list}
 use Rattle.sbi_calls.specs.Harts.{hart_count}
 
--- the harts that a call names by its mask in a0 and its base in a1
+-- the harts that a call names with its mask in a0 and its base in a1
 abbrev pub harts_of_call : HostCall → Harts → Option ℕ
 harts_of_call call harts = hart_list (hart_count harts) call.a0 call.a1
 
--- an interrupt for those of the harts that are started
+-- an interrupt for the started ones of these harts
 abbrev pub interrupt_of : Option ℕ → Harts → Outcome
 interrupt_of (Some listed) harts = Interrupt (bit_and listed harts.started)
 interrupt_of None harts = Error InvalidParam
@@ -26,7 +26,7 @@ ipi_outcome call harts =
     else Error NotSupported
 
 -- the fence of a function: of instructions (0), of translations (1), and of those of an address
--- space (2); the others are of guests
+-- space (2); the other functions are for guests
 abbrev pub fence_of : Option ℕ → ℕ → Outcome
 fence_of (Some listed) function =
     if function == 0 then FenceInstructions listed

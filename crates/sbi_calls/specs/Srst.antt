@@ -1,12 +1,12 @@
--- The end of the board, and its beginning anew, by a call. (SBI, chapter 10)
+-- Shutdown and reboot. (SBI, chapter 10)
 use Rattle.std.specs.Prelude.{ℕ, ◌%◌, ◌^◌, ◌==◌, nat_lt, if◌then◌else◌}
 use Rattle.sbi_calls.specs.declared.error.SbiError.TheVariants.{InvalidParam, NotSupported}
 use Rattle.sbi_calls.specs.declared.host_call.HostCall.{HostCall}
 use Rattle.sbi_calls.specs.declared.outcome.Outcome.{Outcome}
 use Rattle.sbi_calls.specs.declared.outcome.Outcome.TheVariants.{Error, Fail, Reboot, ShutDown}
 
--- a reset whose reason is defined, by its type: shutdown, cold reboot, warm reboot; then types that
--- are reserved, and from f0000000 on those of vendors
+-- a reset whose reason is defined, by its type: shutdown, cold reboot, warm reboot; then reserved
+-- types, and from f0000000 on those of vendors
 abbrev pub reset_of_type : ℕ → Outcome → Outcome
 reset_of_type type shutdown =
     if type == 0 then shutdown
@@ -15,7 +15,7 @@ reset_of_type type shutdown =
     else if nat_lt type 0xf0000000 then Error InvalidParam
     else Error NotSupported
 
--- the reasons: none, or a failure of the system. The others are not defined here
+-- the defined reasons are no reason and a system failure; all others are invalid
 abbrev pub reset_outcome : ℕ → ℕ → Outcome
 reset_outcome type reason =
     if reason == 0 then reset_of_type type ShutDown

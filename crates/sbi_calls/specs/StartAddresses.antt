@@ -1,4 +1,4 @@
--- Where a hart may begin. (SBI, chapter 9, "Hart start": its address is not prohibited by PMP)
+-- The addresses where a hart may begin. (SBI, chapter 9, "Hart start": not prohibited by PMP)
 use Rattle.std.specs.Prelude.{◌≡◌, ◌↔◌, ℕ, Bool, true, List, take, ◌&&◌, if◌then◌else◌, is_ok}
 use Rattle.std.specs.Prelude.{slice_index}
 use Rattle.pmp_encoding.specs.declared.region.Entry.{Entry}
@@ -23,37 +23,37 @@ fetch_at address = record {
   sized = λ i. true;
 }
 
--- what an entry says of an access below machine mode, where those after it say `below`
+-- the decision of an entry on an access below machine mode; `below` is that of the entries after it
 abbrev pub answer_of : Entry → Access → Bool → Bool
 answer_of e a below = if meets e.region a
     then contains_all e.region a && holds e.perm a.kind
     else below
 
--- the pair of registers of an entry
+-- the register pair of an entry
 abbrev pub pair_at : BankWords → ℕ → ℕ × ℕ
 pair_at bank place = (cfg_byte bank.cfg place, slice_index bank.addr place)
 
--- each list that the pairs mean gives the fetch this answer
+-- each list that the pairs encode gives the fetch this answer
 abbrev pub ListsAnswer : List (ℕ × ℕ) → ℕ → Bool → Type 0
 ListsAnswer pairs address answer = (entries : List Entry)
     → MeansList pairs entries → answer ≡ allows entries (fetch_at address)
 
--- the first pairs, up to some place, mean a list that lets the fetch through
+-- the first pairs, up to some place, encode a list that permits the fetch
 abbrev pub FirstPermit : List (ℕ × ℕ) → ℕ → Type 0
 FirstPermit pairs address = (count : ℕ) × (entries : List Entry)
     × MeansList (take count pairs) entries
     × (is_ok (judgement entries (fetch_at address)) ≡ true)
 
--- the same, where the list is asked alone: not whether the address is even, and in the space
+-- as above, judged by the list alone, whether or not the address is even and in the address space
 abbrev pub FirstAllow : List (ℕ × ℕ) → ℕ → Type 0
 FirstAllow pairs address = (count : ℕ) × (entries : List Entry)
     × MeansList (take count pairs) entries × (allows entries (fetch_at address) ≡ true)
 
--- whether the fetch is let through by the entries of a hart: just one of the two answers holds
+-- the entries of a hart permit the fetch iff the answer is true
 pub record IsExecutable (bank : BankWords) (address : ℕ) (answer : Bool) : Type 0 where
-  -- by the list that its registers mean
+  -- by the list that all registers encode
   pub list : (entries : List Entry) → MeansList (pairs_from bank.cfg bank.addr 0 64) entries
       → answer ≡ is_ok (judgement entries (fetch_at address))
-  -- and by those before the first that means nothing, if there is such a pair: what comes from
-  -- there on lets nothing through
+  -- and by the list before the first pair that encodes no entry, if there is one: that pair and
+  -- those after it deny the fetch
   pub first : (answer ≡ true) ↔ FirstPermit (pairs_from bank.cfg bank.addr 0 64) address

@@ -1,4 +1,4 @@
-//! A decision as firmware in C has it.
+//! Decisions in the form that firmware in C reads.
 
 ghost use Rattle.std.specs.Prelude.{◌≡◌};
 ghost use Rattle.sbi_calls.specs.Actions.{action_of, outcome_action};
@@ -6,25 +6,25 @@ ghost use Rattle.sbi_calls.specs.Actions.{action_of, outcome_action};
 use crate::decision::Decision;
 use crate::outcome::Outcome;
 
-/// A decision as firmware in C has it: what to do, what to answer, and what it is done with.
+/// A decision for firmware in C: the action, the answer, and the operands.
 #[repr(C)]
 #[derive(Clone, Copy)]
 pub struct Action {
-    /// What to do, by its number. Below 9 it changes nothing that another hart reads, but by its requests.
+    /// The number of the action. Actions below 9 change nothing that another hart reads, except its requests.
     pub kind: u64,
     /// The answer's error, for a0.
     pub error: u64,
     /// The answer's value, for a1.
     pub value: u64,
-    /// The harts, the hart, the time or the byte.
+    /// The harts, the hart, the time or the byte that the action concerns.
     pub subject: u64,
-    /// Where a hart begins.
+    /// The start address of a hart.
     pub address: u64,
-    /// The word for a hart that begins.
+    /// The `opaque` word for a hart that is started.
     pub opaque: u64,
 }
 
-/// An action that answers SBI_SUCCESS and 0, or nothing.
+/// An action that returns SBI_SUCCESS and 0, or nothing.
 fn plain(kind: u64, subject: u64) -> Action
     ensures { result ≡ plain kind subject }
 {
@@ -38,7 +38,7 @@ fn plain(kind: u64, subject: u64) -> Action
     }
 }
 
-/// An action that only answers.
+/// An action that only returns an answer.
 fn answer(error: u64, value: u64) -> Action
     ensures { result ≡ answer error value }
 {
@@ -52,7 +52,7 @@ fn answer(error: u64, value: u64) -> Action
     }
 }
 
-/// What a call of the host comes to, as an action.
+/// Converts the outcome of a host's call to an action.
 fn outcome_action(outcome: Outcome) -> Action
     ensures { result ≡ outcome_action outcome }
 {
@@ -84,7 +84,7 @@ fn outcome_action(outcome: Outcome) -> Action
     }
 }
 
-/// The action of a decision.
+/// Converts a decision to an action.
 pub fn action_of(decision: Decision) -> Action
     ensures { result ≡ action_of decision }
 {

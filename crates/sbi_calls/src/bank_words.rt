@@ -1,6 +1,6 @@
-//! The PMP registers of a hart as the firmware has them.
+//! The PMP registers of a hart in the firmware's layout.
 
-/// The PMP registers of a hart: those of sixty-four entries, of which a hart with fewer has the first.
+/// The PMP registers of a hart, for 64 entries; a hart with fewer uses the first.
 #[repr(C)]
 #[derive(Clone, Copy)]
 pub struct BankWords {

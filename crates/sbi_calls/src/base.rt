@@ -1,4 +1,4 @@
-//! What the host asks of SBI and of this hart, which changes nothing.
+//! The host's calls that query SBI or the hart and change nothing.
 
 ghost use Rattle.std.specs.Prelude.{◌≡◌};
 ghost use Rattle.sbi_calls.specs.Base.{base_outcome, is_offered, stops_outcome};
@@ -11,10 +11,10 @@ use crate::outcome::Outcome;
 /// Version 1.0: the minor number is in the low 24 bits.
 const VERSION: u64 = 0x100_0000;
 
-/// The number of this implementation.
+/// The number of this SBI implementation.
 const IMPLEMENTATION: u64 = 0x0845_4e43;
 
-/// 1 where there is an extension of this number, and 0 otherwise.
+/// Returns 1 if there is an extension of this number, and 0 otherwise.
 fn is_offered(number: u64) -> u64
     ensures { result ≡ is_offered number }
 {
@@ -24,7 +24,7 @@ fn is_offered(number: u64) -> u64
     }
 }
 
-/// A function of the base extension (chapter 4).
+/// Performs a function of the base extension (chapter 4).
 pub fn base_outcome(function: u64, a0: u64, caller: &Caller) -> Outcome
     ensures { result ≡ base_outcome function a0 caller.now }
 {
@@ -40,7 +40,7 @@ pub fn base_outcome(function: u64, a0: u64, caller: &Caller) -> Outcome
     }
 }
 
-/// A function that says why an enclave stopped on this hart: the cause, and the value beside it.
+/// Performs a function that reports why an enclave stopped on this hart: the cause or its value (`mtval`).
 pub fn stops_outcome(function: u64, caller: &Caller) -> Outcome
     ensures { result ≡ stops_outcome function caller.now }
 {

@@ -1,9 +1,9 @@
-//! One bit of a word, the lowest being bit 0.
+//! Single bits of a word, where bit 0 is the lowest.
 
 ghost use Rattle.std.specs.Prelude.{◌≡◌, ◌≢◌, ℕ, ◌^◌, ◌<◌, IsTrue, ◌↔◌};
 ghost use Rattle.std.specs.Int.{bit_at};
 
-/// The word that has this bit alone.
+/// Returns the word with only this bit set.
 fn bit(place: u64) -> u64
     requires { place < 64 }
     ensures { result ≡ 2 ^ place }
@@ -11,7 +11,7 @@ fn bit(place: u64) -> u64
     1 << place
 }
 
-/// Whether the word has the bit.
+/// Returns whether the bit is set.
 pub(crate) fn has_bit(word: u64, place: u64) -> bool
     requires { place < 64 }
     ensures { IsTrue result ↔ (bit_at word place ≡ 1) }
@@ -19,7 +19,7 @@ pub(crate) fn has_bit(word: u64, place: u64) -> bool
     word >> place & 1 == 1
 }
 
-/// The word with the bit.
+/// Sets the bit.
 pub(crate) fn with_bit(word: u64, place: u64) -> u64
     requires { place < 64 }
     ensures here { bit_at result place ≡ 1 }
@@ -28,7 +28,7 @@ pub(crate) fn with_bit(word: u64, place: u64) -> u64
     word | bit(place)
 }
 
-/// The word without the bit.
+/// Clears the bit.
 pub(crate) fn without_bit(word: u64, place: u64) -> u64
     requires { place < 64 }
     ensures here { bit_at result place ≡ 0 }

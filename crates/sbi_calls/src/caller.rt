@@ -1,19 +1,19 @@
-//! The hart that a call comes from.
+//! The calling hart.
 
-/// What the host of a hart can ask of the hart itself.
+/// The values that a host can query about its own hart.
 #[repr(C)]
 #[derive(Clone, Copy)]
 pub struct Caller {
-    /// Its number.
+    /// The number of the hart.
     pub hart: u64,
-    /// Its register `mvendorid`.
+    /// The register `mvendorid`.
     pub vendor: u64,
-    /// Its register `marchid`.
+    /// The register `marchid`.
     pub architecture: u64,
-    /// Its register `mimpid`.
+    /// The register `mimpid`.
     pub implementation: u64,
-    /// The cause with which an enclave stopped there last.
+    /// The cause with which an enclave last stopped on the hart.
     pub stop_cause: u64,
-    /// The value that the trap had beside its cause (`mtval`).
+    /// The value of that trap (`mtval`).
     pub stop_value: u64,
 }

@@ -1,22 +1,22 @@
-//! What the firmware does at a trap.
+//! The firmware's decisions at traps.
 
 use crate::outcome::Outcome;
 
-/// What the firmware does at a trap.
+/// The firmware's decision at a trap.
 #[derive(Clone, Copy)]
 pub enum Decision {
-    /// The world goes on: another hart asked this one to come, and it has. A hart that was started begins.
+    /// The world goes on after another hart's interrupt. A hart that was started begins.
     GoOn,
-    /// The host's timer has come, and the host goes on.
+    /// The host's timer has expired, and the host goes on.
     Tick,
-    /// The host goes on at its own handler.
+    /// The host goes on at its own trap handler.
     ToHandler,
-    /// The monitor answers a call of an enclave.
+    /// The monitor serves a call of an enclave.
     EnclaveCall,
     /// The monitor stops the enclave.
     EnclaveStop,
-    /// The host's timer has come, and the monitor stops the enclave.
+    /// The host's timer has expired, and the monitor stops the enclave.
     EnclaveTick,
-    /// What a call of the host comes to.
+    /// The outcome of a call of the host.
     Host(Outcome),
 }

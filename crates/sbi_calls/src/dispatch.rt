@@ -1,4 +1,4 @@
-//! A call of the host, by its extension.
+//! The host's calls, by extension.
 
 ghost use Rattle.std.specs.Prelude.{◌≡◌, ◌≢◌, Bool};
 ghost use Rattle.sbi_calls.specs.Dispatch.{IsStart, console_outcome, outcome_of, time_outcome};
@@ -17,7 +17,7 @@ use crate::outcome::Outcome;
 use crate::remote::{ipi_outcome, rfence_outcome};
 use crate::srst::srst_outcome;
 
-/// A function of the timer extension (chapter 6): the time is in a0.
+/// Performs a function of the timer extension (chapter 6): the time is in a0.
 fn time_outcome(call: &HostCall) -> Outcome
     ensures { result ≡ time_outcome call.now }
 {
@@ -27,8 +27,8 @@ fn time_outcome(call: &HostCall) -> Outcome
     }
 }
 
-/// A function of the debug console (version 2.0, chapter 12): the byte is the lowest of a0. Its other functions take addresses,
-/// at which machine mode would read or write with no entry to bind it.
+/// Performs a function of the debug console (version 2.0, chapter 12): the byte is the lowest of a0. The other
+/// functions take addresses, which machine mode would access unchecked by PMP.
 fn console_outcome(call: &HostCall) -> Outcome
     ensures { result ≡ console_outcome call.now }
 {
@@ -38,11 +38,11 @@ fn console_outcome(call: &HostCall) -> Outcome
     }
 }
 
-/// What a call of the host's supervisor mode comes to, on a hart that has these entries.
+/// Returns the outcome of a call of the host's supervisor mode on a hart with these entries.
 pub fn outcome_of(call: &HostCall, caller: &Caller, harts: &Harts, bank: &BankWords) -> Outcome
     ensures start { (executable : Bool) → IsExecutable bank.now call.now.a1 executable
         → result ≡ outcome_of call.now caller.now harts.now executable }
-    // No other call looks at the entries.
+    // All other calls ignore the entries.
     ensures others { ¬ IsStart call.now → (executable : Bool)
         → result ≡ outcome_of call.now caller.now harts.now executable }
     ensures there { NamesBoard harts.now result }

@@ -3,21 +3,21 @@
 ghost use Rattle.std.specs.Prelude.{◌≡◌};
 ghost use Rattle.sbi_calls.specs.Errors.{error_word};
 
-/// Why a call is refused (SBI, chapter 3, "Standard SBI Errors"): those of them that are answered here.
+/// The SBI errors that are used here (SBI, chapter 3, "Standard SBI Errors").
 #[derive(Clone, Copy, Debug, PartialEq, Eq)]
 pub enum SbiError {
-    /// There is no such extension or function, or it is not implemented.
+    /// The extension or function does not exist or is not implemented.
     NotSupported,
-    /// A parameter is none that there is.
+    /// A parameter is invalid.
     InvalidParam,
     /// The host may not execute at the address.
     InvalidAddress,
-    /// The hart is started already.
+    /// The hart is already started.
     AlreadyAvailable,
 }
 
 impl SbiError {
-    /// Its word in a0: a negative number of 64 bits.
+    /// Returns the error as the word in a0, a negative number of 64 bits.
     pub fn word(self) -> u64
         ensures { result ≡ error_word self }
     {

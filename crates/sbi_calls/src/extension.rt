@@ -1,9 +1,9 @@
-//! The extensions that there are.
+//! The extensions offered to the host.
 
 ghost use Rattle.std.specs.Prelude.{◌≡◌};
 ghost use Rattle.sbi_calls.specs.Extensions.{extension_of};
 
-/// An extension that is offered to the host.
+/// An extension offered to the host.
 #[derive(Clone, Copy)]
 pub enum Extension {
     /// Chapter 4, "Base Extension".
@@ -22,12 +22,12 @@ pub enum Extension {
     Console,
     /// The monitor's own calls.
     Monitor,
-    /// Why an enclave stopped.
+    /// The reason why an enclave stopped.
     Stops,
 }
 
 impl Extension {
-    /// The extension of this number, which a call has in a7.
+    /// Returns the extension with this number, which a call passes in a7.
     pub fn of(number: u64) -> Option<Extension>
         ensures { result ≡ extension_of number }
     {

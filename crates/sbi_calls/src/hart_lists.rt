@@ -1,10 +1,10 @@
-//! The list of harts that a call names.
+//! The list of harts in a call.
 
 ghost use Rattle.std.specs.Prelude.{◌≡◌, ◌<◌, ◌≤◌, ◌↔◌, ℕ, IfSome};
 ghost use Rattle.std.specs.Int.{bit_at};
 ghost use Rattle.sbi_calls.specs.HartLists.{Names, all_harts, hart_list};
 
-/// The word with the bits of this many harts.
+/// Returns the word with the bits of the first `count` harts.
 fn all_harts(count: u64) -> u64
     requires { count ≤ 64 }
     ensures { result ≡ all_harts count }
@@ -16,8 +16,9 @@ fn all_harts(count: u64) -> u64
     }
 }
 
-/// The harts that a mask names from a base on (SBI, chapter 3, "Hart list parameter"), hart h in bit h, on a board of this many
-/// harts. A base of all ones names all of them. None where the base or a hart of the mask is not on the board.
+/// Returns the harts that a mask names from a base on (SBI, chapter 3, "Hart list parameter") on a board of `count`
+/// harts: hart h is bit h. A base of all ones names all harts. Returns `None` if the base or a hart of the mask is not
+/// on the board.
 pub fn hart_list(count: u64, mask: u64, base: u64) -> Option<u64>
     requires { count ≤ 64 }
     ensures value { result ≡ hart_list count mask base }

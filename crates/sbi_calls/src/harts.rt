@@ -6,19 +6,19 @@ ghost use Rattle.sbi_calls.specs.declared.harts.HartState.TheVariants.{StartPend
 
 use crate::bits::{has_bit, with_bit, without_bit};
 
-/// The state of a hart (SBI, chapter 9): those of them that a hart has here.
+/// The states of a hart that occur here (SBI, chapter 9).
 #[derive(Clone, Copy, PartialEq, Eq)]
 pub enum HartState {
-    /// It runs a world.
+    /// The hart runs a world.
     Started,
-    /// It waits to be started.
+    /// The hart waits to be started.
     Stopped,
-    /// It was started, and has not begun.
+    /// The hart was started but has not begun yet.
     StartPending,
 }
 
 impl HartState {
-    /// Its number, which the function for a hart's status answers.
+    /// Returns the number of the state, as the status function reports it.
     pub fn number(self) -> u64
         ensures { result ≡ state_number self }
     {
@@ -30,27 +30,27 @@ impl HartState {
     }
 }
 
-/// The harts of the board, and their states. Hart h is in bit h of a word. One that is in neither is stopped.
+/// The states of the board's harts. Hart h is bit h of a word, and a hart in neither word is stopped.
 #[repr(C)]
 #[derive(Clone, Copy)]
 pub struct Harts {
-    /// How many there are: harts 0, 1, .. up to 63.
+    /// The number of harts, which are numbered from 0 to at most 63.
     pub count: u64,
-    /// Those that are started.
+    /// The harts that are started.
     pub started: u64,
-    /// Those that were started by a call since they stopped last. Of one that is in both words the other holds: it has begun.
+    /// The harts started by a call since they last stopped. A hart in both words has begun.
     pub pending: u64,
 }
 
 impl Harts {
-    /// How many harts there are, at most 64.
+    /// Returns the number of harts, at most 64.
     pub fn number(&self) -> u64
         ensures { result ≡ hart_count self.now }
     {
         self.count.min(64)
     }
 
-    /// The state of a hart.
+    /// Returns the state of a hart.
     pub fn state_of(&self, hart: u64) -> HartState
         requires { hart < 64 }
         ensures { result ≡ state_of self.now hart }
@@ -64,7 +64,7 @@ impl Harts {
         }
     }
 
-    /// A stopped hart is started: it will begin.
+    /// Starts a stopped hart, which has yet to begin.
     pub fn start(&mut self, hart: u64)
         requires there { hart < 64 }
         requires stopped { state_of self.old hart ≡ Stopped }
@@ -75,7 +75,7 @@ impl Harts {
         self.pending = with_bit(self.pending, hart);
     }
 
-    /// A hart stops.
+    /// Stops a hart.
     pub fn stop(&mut self, hart: u64)
         requires there { hart < 64 }
         ensures states { (other : ℕ) → state_of self.new other
@@ -86,7 +86,7 @@ impl Harts {
         self.pending = without_bit(self.pending, hart);
     }
 
-    /// A hart that was started begins. Where it was not, nothing changes.
+    /// Lets a hart begin if it was started; otherwise nothing changes.
     pub fn begin(&mut self, hart: u64)
         requires there { hart < 64 }
         ensures states { (other : ℕ) → state_of self.new other

@@ -1,6 +1,6 @@
-//! The registers of a call.
+//! The argument registers of a call.
 
-/// The registers of a call (SBI, chapter 3, "Binary Encoding"): a0 to a7, which are x10 to x17.
+/// The argument registers of a call (SBI, chapter 3, "Binary Encoding"): a0 to a7, which are x10 to x17.
 #[repr(C)]
 #[derive(Clone, Copy)]
 pub struct HostCall {

@@ -1,4 +1,4 @@
-//! The calls by which a host starts and stops harts.
+//! The calls that start and stop harts.
 
 ghost use Rattle.std.specs.Prelude.{◌≡◌, ◌≢◌, Bool};
 ghost use Rattle.sbi_calls.specs.Hsm.{hsm_outcome, start_outcome, status_outcome, suspend_outcome};
@@ -12,8 +12,8 @@ use crate::host_call::HostCall;
 use crate::outcome::Outcome;
 use crate::start_address::is_executable;
 
-/// The start of a hart: its number in a0, the address in a1, a word for it in a2. Whether the host may execute at the address
-/// is known.
+/// Starts a hart: its number is in a0, the address in a1, its `opaque` word in a2. `executable` tells whether the host
+/// may execute at the address.
 fn start_outcome(call: &HostCall, harts: &Harts, executable: bool) -> Outcome
     ensures value { result ≡ start_outcome call.now harts.now executable }
     ensures there { NamesBoard harts.now result }
@@ -35,7 +35,7 @@ fn start_outcome(call: &HostCall, harts: &Harts, executable: bool) -> Outcome
     }
 }
 
-/// The state of a hart.
+/// Returns the state of a hart.
 fn status_outcome(hart: u64, harts: &Harts) -> Outcome
     ensures value { result ≡ status_outcome hart harts.now }
     ensures there { NamesBoard harts.now result }
@@ -46,7 +46,8 @@ fn status_outcome(hart: u64, harts: &Harts) -> Outcome
     Outcome::Value(harts.state_of(hart).number())
 }
 
-/// A suspension, by its type in the low 32 bits. There is none; the types that are reserved have another error.
+/// Refuses a suspension, whose type is in the low 32 bits. No type is implemented, and reserved types get an error of
+/// their own.
 fn suspend_outcome(word: u64) -> Outcome
     ensures { result ≡ suspend_outcome word }
 {
@@ -58,11 +59,11 @@ fn suspend_outcome(word: u64) -> Outcome
     }
 }
 
-/// A function of the extension for the states of harts (chapter 9), on a hart with these entries.
+/// Performs a function of the Hart State Management extension (chapter 9), on a hart with these entries.
 pub fn hsm_outcome(call: &HostCall, harts: &Harts, bank: &BankWords) -> Outcome
     ensures start { (executable : Bool) → IsExecutable bank.now call.now.a1 executable
         → result ≡ hsm_outcome call.now harts.now executable }
-    // No other function looks at the entries.
+    // All other functions ignore the entries.
     ensures others { call.now.function ≢ 0 → (executable : Bool)
         → result ≡ hsm_outcome call.now harts.now executable }
     ensures there { NamesBoard harts.now result }

@@ -8,7 +8,8 @@ ghost use Rattle.sbi_calls.specs.declared.caller.Caller.{Caller};
 ghost use Rattle.sbi_calls.specs.declared.harts.Harts.{Harts};
 ghost use Rattle.sbi_calls.specs.declared.host_call.HostCall.{HostCall};
 
-/// No trap of an enclave is a call of the host: it reaches no function of SBI, and stops and starts no hart.
+/// A trap of an enclave is never a call of the host: it reaches no function of SBI, and neither starts nor stops a
+/// hart.
 pub fn enclave_law()
     ensures { (id cause : ℕ) (call : HostCall) (caller : Caller) (harts : Harts)
         (executable : Bool)

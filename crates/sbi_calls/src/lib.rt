@@ -1,14 +1,15 @@
-//! What a trap asks the firmware for: whose it is, and what a call of the host by the Supervisor Binary Interface is answered.
+//! Decides what the firmware does at each trap, and answers the host's calls of the Supervisor Binary Interface (SBI).
 //!
-//! The firmware asks for a [`Decision`] at each trap, and does what it says. It is by the cause, the world that trapped, the
-//! host's call, the states of the harts and the entries that the host has. Nothing here takes memory or reads a register.
+//! The firmware asks for a [`Decision`] at each trap and carries it out. The decision depends on the cause, the world
+//! that trapped, the host's call, the states of the harts and the host's PMP entries. Nothing here allocates memory or
+//! reads a register.
 //!
-//! For the layer above: no trap of an enclave reaches a function of SBI ([`enclave_law`]). An interrupt, a fence or a start
-//! names harts of the board alone. A hart is in one state of SBI's at a time, and [`decide`] leads from state to state as its
-//! chapter 9 has it.
+//! For the layer above: no trap of an enclave reaches a function of SBI ([`enclave_law`]). An interrupt, a fence or a
+//! start names only harts of the board. Each hart is in one of SBI's states, and [`decide`] changes it as chapter 9
+//! specifies.
 //!
-//! The interface is version 1.0 of the RISC-V Supervisor Binary Interface Specification; chapters are named by its numbers. The
-//! byte that goes to a console is a function of version 2.0 (chapter 12).
+//! The interface is version 1.0 of the RISC-V Supervisor Binary Interface Specification, to which chapter numbers
+//! refer. Writing a byte to the console is a function of version 2.0 (chapter 12).
 //!
 //! ```text
 //! let decision = decide(world, cause, &call, &caller, &bank, &mut harts);

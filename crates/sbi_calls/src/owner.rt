@@ -1,42 +1,42 @@
-//! Whose a trap is.
+//! Attributes traps to the monitor, the host or an enclave.
 
 ghost use Rattle.std.specs.Prelude.{◌≡◌};
 ghost use Rattle.sbi_calls.specs.Owners.{owner_of, world_of};
 
 use sbi_decode::World;
 
-/// Machine mode's software interrupt.
+/// The cause of machine mode's software interrupt.
 const SOFTWARE: u64 = 0x8000_0000_0000_0003;
 
-/// Machine mode's timer interrupt.
+/// The cause of machine mode's timer interrupt.
 const TIMER: u64 = 0x8000_0000_0000_0007;
 
-/// A call of user mode.
+/// The cause of an environment call from user mode.
 const CALL_OF_USER: u64 = 8;
 
-/// A call of supervisor mode.
+/// The cause of an environment call from supervisor mode.
 const CALL_OF_SUPERVISOR: u64 = 9;
 
-/// Whose a trap is, and what it is.
+/// The source of a trap.
 #[derive(Clone, Copy)]
 pub enum TrapOwner {
-    /// Another hart's, which asked this one to come: it has come, and its world goes on.
+    /// Another hart, which interrupted this one; the world goes on.
     OtherHart,
-    /// The host's timer, while the host runs.
+    /// The host's timer while the host runs.
     HostTimer,
-    /// A call of the host's supervisor mode.
+    /// A call from the host's supervisor mode.
     HostCall,
-    /// Every other trap of the host: its own handler has it.
+    /// The host, by any other trap: its own handler takes it.
     HostHandler,
     /// A call of an enclave.
     EnclaveCall,
-    /// The host's timer, while an enclave runs, which stops.
+    /// The host's timer while an enclave runs: the enclave stops.
     EnclaveTimer,
-    /// Every other trap of an enclave, which stops.
+    /// An enclave, by any other trap: the enclave stops.
     EnclaveStop,
 }
 
-/// The world of a number: 0 is the host, and others are the ids of enclaves.
+/// Converts a number to a world: 0 is the host, and any other is the id of an enclave.
 pub fn world_of(number: u64) -> World
     ensures { result ≡ world_of number }
 {
@@ -46,7 +46,7 @@ pub fn world_of(number: u64) -> World
     }
 }
 
-/// Whose a trap of this cause is in the host's world.
+/// Returns the source of a trap of this cause in the host's world.
 fn owner_in_host(cause: u64) -> TrapOwner
     ensures { result ≡ owner_of World.Host cause }
 {
@@ -58,7 +58,7 @@ fn owner_in_host(cause: u64) -> TrapOwner
     }
 }
 
-/// Whose a trap of this cause is in an enclave.
+/// Returns the source of a trap of this cause in an enclave.
 fn owner_in_enclave(cause: u64, id: u64) -> TrapOwner
     ensures { result ≡ owner_of (World.Enclave id) cause }
 {
@@ -70,8 +70,8 @@ fn owner_in_enclave(cause: u64, id: u64) -> TrapOwner
     }
 }
 
-/// Whose a trap is, by its cause (Privileged Architecture, `mcause`) and the world that trapped. A call of the host's user mode
-/// is its own handler's, and so is one of a guest.
+/// Returns the source of a trap, by its cause (Privileged Architecture, `mcause`) and the world that trapped. A call
+/// from the host's user mode, or from a guest, goes to the host's own handler.
 pub fn owner_of(world: World, cause: u64) -> TrapOwner
     ensures { result ≡ owner_of world cause }
 {

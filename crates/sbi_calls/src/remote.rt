@@ -1,4 +1,4 @@
-//! What a host asks of other harts.
+//! The host's requests to other harts.
 
 ghost use Rattle.std.specs.Prelude.{◌≡◌};
 ghost use Rattle.sbi_calls.specs.Named.{NamesBoard};
@@ -10,8 +10,8 @@ use crate::harts::Harts;
 use crate::host_call::HostCall;
 use crate::outcome::Outcome;
 
-/// A function of the IPI extension (chapter 7): its mask of harts is in a0, its base in a1. A hart that is not started finds no
-/// interrupt.
+/// Performs the function of the IPI extension (chapter 7): the hart mask is in a0, its base in a1. A hart that is not
+/// started gets no interrupt.
 pub fn ipi_outcome(call: &HostCall, harts: &Harts) -> Outcome
     ensures value { result ≡ ipi_outcome call.now harts.now }
     ensures there { NamesBoard harts.now result }
@@ -25,8 +25,9 @@ pub fn ipi_outcome(call: &HostCall, harts: &Harts) -> Outcome
     }
 }
 
-/// A function of the RFENCE extension (chapter 8): its mask of harts is in a0, its base in a1. Addresses and address spaces are
-/// not looked at, since a wider fence is let in. There are no guests, and so none of their fences.
+/// Performs a function of the RFENCE extension (chapter 8): the hart mask is in a0, its base in a1. Addresses and
+/// address spaces are ignored, because a wider fence is allowed. There are no guests, so fences for guests are not
+/// supported.
 pub fn rfence_outcome(call: &HostCall, harts: &Harts) -> Outcome
     ensures value { result ≡ rfence_outcome call.now harts.now }
     ensures there { NamesBoard harts.now result }

@@ -1,4 +1,4 @@
-//! The end of the board, and its beginning anew, by a call.
+//! Shutdown and reboot.
 
 ghost use Rattle.std.specs.Prelude.{◌≡◌};
 ghost use Rattle.sbi_calls.specs.Srst.{reset_outcome, srst_outcome};
@@ -7,7 +7,7 @@ use crate::error::SbiError;
 use crate::host_call::HostCall;
 use crate::outcome::Outcome;
 
-/// A reset by its type and its reason, of 32 bits each.
+/// Resets the board by type and reason, of 32 bits each.
 fn reset_outcome(kind: u64, reason: u64) -> Outcome
     ensures { result ≡ reset_outcome kind reason }
 {
@@ -22,8 +22,8 @@ fn reset_outcome(kind: u64, reason: u64) -> Outcome
     }
 }
 
-/// A function of the system reset extension (chapter 10): the type is in a0, the reason in a1. Both reboots begin with the reset
-/// of the board, and no type of a vendor is implemented.
+/// Performs the function of the system reset extension (chapter 10): the type is in a0, the reason in a1. Cold and warm
+/// reboots both reset the board, and no vendor type is implemented.
 pub fn srst_outcome(call: &HostCall) -> Outcome
     ensures { result ≡ srst_outcome call.now }
 {

@@ -1,4 +1,4 @@
-//! Where a hart may begin.
+//! The addresses where a hart may begin.
 
 ghost use Rattle.std.specs.Prelude.{◌≡◌, ◌^◌, ◌<◌, Bool};
 ghost use Rattle.sbi_calls.specs.StartAddresses.{IsExecutable, answer_of, fetch_at};
@@ -7,10 +7,10 @@ use crate::bank_words::BankWords;
 use pmp_encoding::{Entry, decode};
 use pmp_match::{Access, Kind, Mode, extent_of, holds, touches};
 
-/// The size of the space of physical addresses in bytes.
+/// The size of the physical address space in bytes.
 const SPACE: u64 = 1 << 56;
 
-/// The first fetch of supervisor mode at an address: of two bytes, which each instruction has.
+/// The first fetch of supervisor mode at an address: two bytes, the size of the shortest instruction.
 fn fetch_at(address: u64) -> Access
     ensures { result ≡ fetch_at address }
 {
@@ -22,7 +22,7 @@ fn fetch_at(address: u64) -> Access
     }
 }
 
-/// What an entry says of a fetch, where those after it say `below`.
+/// Decides a fetch by one entry; `below` is the decision of the entries after it.
 fn answer_of(entry: &Entry, access: &Access, below: bool) -> bool
     requires { access.now.address < 2 ^ 56 }
     ensures { result ≡ answer_of entry.now access.now below }
@@ -35,7 +35,7 @@ fn answer_of(entry: &Entry, access: &Access, below: bool) -> bool
     extent.base <= access.address && end <= extent.end && holds(extent.perm, access.kind)
 }
 
-/// The configuration byte of an entry.
+/// Returns the configuration byte of an entry.
 fn cfg_of(bank: &BankWords, place: usize) -> u8
     requires { place < 64 }
     ensures { result ≡ cfg_byte bank.now.cfg place }
@@ -43,8 +43,8 @@ fn cfg_of(bank: &BankWords, place: usize) -> u8
     ((bank.cfg[place / 8] >> (8 * (place % 8))) % 256) as u8
 }
 
-/// What the entries from a place on say of a fetch, where those after it say `below`. A pair that means nothing lets nothing
-/// through.
+/// Decides a fetch by the entries from `place` on; `below` is the decision of the entries after it. A register pair
+/// that encodes no entry denies the fetch.
 fn answer_from(bank: &BankWords, place: usize, address: u64, below: bool) -> bool
     requires place { place < 64 }
     requires address { address < 2 ^ 56 }
@@ -60,9 +60,9 @@ fn answer_from(bank: &BankWords, place: usize, address: u64, below: bool) -> boo
     }
 }
 
-/// Whether supervisor mode may execute at an address under the entries of a hart: the first of them that has it decides, and
-/// there is no other. A pair that means nothing lets nothing through, nor does one behind it. An odd address is none of
-/// an instruction. (SBI, chapter 9, "Hart start": SBI_ERR_INVALID_ADDRESS)
+/// Returns whether supervisor mode may execute at an address under the PMP entries of a hart: the first entry that
+/// matches decides, and without a match the fetch is denied. A pair that encodes no entry denies the fetch, as do the
+/// pairs after it. An odd address holds no instruction. (SBI, chapter 9, "Hart start": SBI_ERR_INVALID_ADDRESS)
 #[inline(never)]
 pub fn is_executable(bank: &BankWords, address: u64) -> bool
     ensures { IsExecutable bank.now address result }

@@ -1,4 +1,4 @@
-//! The decision at a trap, and what becomes of the harts' states.
+//! The decision at a trap, and its effect on the states of the harts.
 
 ghost use Rattle.std.specs.Prelude.{◌≡◌, ◌<◌, ℕ, Bool};
 ghost use Rattle.sbi_calls.specs.Decisions.{Decides, DecidesBoard, decision_of, state_after};
@@ -16,7 +16,7 @@ use crate::outcome::Outcome;
 use crate::owner::{TrapOwner, owner_of};
 use sbi_decode::World;
 
-/// The decision at a trap, while the harts have these states.
+/// Decides what to do at a trap while the harts are in these states.
 fn decision_of(
     owner: TrapOwner,
     call: &HostCall,
@@ -41,7 +41,7 @@ fn decision_of(
     }
 }
 
-/// Gives the harts the states that they have by a decision at a trap of this one.
+/// Updates the states of the harts after a decision at a trap of `hart`.
 fn settle(decision: Decision, hart: u64, harts: &mut Harts)
     requires hart { hart < 64 }
     requires there { DecidesBoard harts.old decision }
@@ -57,9 +57,9 @@ fn settle(decision: Decision, hart: u64, harts: &mut Harts)
     }
 }
 
-/// What the firmware does at a trap of this cause in a world, by the registers of a call, the hart that trapped and its entries.
-/// The harts have the states that follow. A start names a stopped hart of the board; an interrupt and a fence name harts of the
-/// board.
+/// Decides what the firmware does at a trap of this cause in a world, given the registers of the call, the hart that
+/// trapped and its entries, and updates the states of the harts. A start names a stopped hart of the board; an
+/// interrupt and a fence name harts of the board.
 pub fn decide(
     world: World,
     cause: u64,

@@ -1,17 +1,17 @@
--- The calls of the monitor: SBI binary encoding, with the extension id in a7, the function in a6,
--- arguments in a0 to a5.
+-- The calls of the monitor in the SBI binary encoding: the extension id in a7, the function id in
+-- a6, and arguments in a0 to a5.
 use Rattle.std.specs.Prelude.{ℕ, ◌+◌, ◌==◌, not, Option, Some, None, if◌then◌else◌, slice_index}
 use Rattle.sbi_decode.specs.Registers.{RegisterFile}
 use Rattle.sbi_decode.specs.declared.calls.Call.{Call}
 use Rattle.sbi_decode.specs.declared.calls.Call.TheVariants.{Create, Destroy, Run, Stop, Resume}
 use Rattle.sbi_decode.specs.declared.calls.Call.TheVariants.{Exit, Measure}
 
--- the argument registers by their names in the calling convention: a0 to a7 are x10 to x17
+-- the argument registers by their ABI names: a0 to a7 are x10 to x17
 abbrev pub a_of : RegisterFile → ℕ → ℕ
 a_of file n = slice_index file.xs (9 + n)
 
--- the call that the registers name, and its arguments: a function of the monitor's extension by its
--- id, and none of another extension
+-- the call that the registers name, with its arguments, or `None` for any other extension or
+-- function
 abbrev pub call_of : RegisterFile → Option Call
 call_of file =
     if not (a_of file 7 == 0x08454E43) then None

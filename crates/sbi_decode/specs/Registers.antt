@@ -11,11 +11,11 @@ abbrev pub x_of : RegisterFile → ℕ → ℕ
 x_of file zero = 0
 x_of file (suc n) = slice_index file.xs n
 
--- every register zero
+-- all registers are zero
 abbrev pub zeros : RegisterFile
 zeros = record { pc = 0; xs = replicate 31 0 }
 
--- the file with xn set, where setting x0 changes nothing
+-- the file with xn set; setting x0 changes nothing
 abbrev pub with_x : RegisterFile → ℕ → ℕ → RegisterFile
 with_x file zero value = file
 with_x file (suc n) value = record file { xs = slice_set file.xs n value }

@@ -1,15 +1,15 @@
 //! The calls of the monitor.
 
 /// The SBI extension id of the monitor, in the experimental space 0x08000000 to 0x08FFFFFF (SBI, section Binary
-/// Encoding): the letters "ENC" after it.
+/// Encoding). Its lower bytes are the letters "ENC".
 pub const EXTENSION_ID: u64 = 0x0845_4E43;
 
-/// A call of the monitor, with its arguments. All numbers are the registers' 64-bit words as they are: the monitor
+/// A call of the monitor with its arguments. The numbers are the unchecked 64-bit words of the registers; the monitor
 /// checks them.
 #[derive(Clone, Copy, PartialEq, Eq)]
 pub enum Call {
-    /// Function 0: makes an enclave. Base and shared base are addresses in bytes, the counts are pages, the entry offset
-    /// is in bytes from the base.
+    /// Function 0: creates an enclave. Both bases are byte addresses, the counts are pages, and the entry offset is in
+    /// bytes from the base.
     Create {
         base: u64,
         text_pages: u64,
@@ -18,7 +18,7 @@ pub enum Call {
         shared_count: u64,
         entry_offset: u64,
     },
-    /// Function 1: gives an enclave's pages back to the host.
+    /// Function 1: returns an enclave's pages to the host.
     Destroy {
         id: u64,
     },
@@ -32,17 +32,17 @@ pub enum Call {
     Resume {
         id: u64,
     },
-    /// Function 5: the enclave ends itself with a value for the host.
+    /// Function 5: the enclave exits with a value for the host.
     Exit {
         value: u64,
     },
-    /// Function 6: the `k`-th word of an enclave's digest.
+    /// Function 6: returns the `k`-th word of an enclave's digest.
     Measure {
         id: u64,
         k: u64,
     },
 }
 
-/// The registers name no call of this monitor: another extension id, or another function of its extension.
+/// The registers name no call of the monitor: the extension id or the function id differs.
 #[derive(Clone, Copy, Debug, PartialEq, Eq)]
 pub struct NotSupported;

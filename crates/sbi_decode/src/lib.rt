@@ -1,8 +1,8 @@
 //! The integer registers of an RV64 hart, and the monitor's call that they name.
 //!
-//! The calls are made as the RISC-V Supervisor Binary Interface has it (section Binary Encoding): the extension id in
-//! a7, the function id in a6, the arguments from a0 on. The contract for the layer above: [`decode`] answers just the
-//! call that a7, a6 and a0 to a5 name, and [`NotSupported`] exactly where they name none. Nothing here takes memory.
+//! The calls follow the RISC-V Supervisor Binary Interface (section Binary Encoding): the extension id in a7, the
+//! function id in a6, and the arguments from a0 on. Contract for the layer above: [`decode`] returns the call that a7,
+//! a6 and a0 to a5 name, or [`NotSupported`] iff they name none. Nothing here allocates.
 //!
 //! ```
 //! let mut registers = Registers::new();
@@ -12,11 +12,11 @@
 //! match decode(&registers) { Ok(Call::Exit { value }) => .., .. }
 //! ```
 //!
-//! Who runs on a hart: the host, or an enclave by its id.
+//! A [`World`] is what runs on a hart: the host, or an enclave by its id.
 //!
-//! The table of enclaves and the switch between worlds are separate from one another; a [`World`] is the word that both
-//! speak of. The definitions beside it say which worlds there are, and whose the registers of a world are on a hart:
-//! each hart has a host of its own, and an enclave is the same on every hart.
+//! The table of enclaves and the switch between worlds do not depend on one another, and both use [`World`]. The
+//! definitions beside it list the worlds, and the owner of a world's registers on a hart: each hart has a host of its
+//! own, and an enclave is the same on every hart.
 //!
 //! ```
 //! let world = World::Enclave(1);

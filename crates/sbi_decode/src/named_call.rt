@@ -1,4 +1,4 @@
-//! The call that the registers name.
+//! Decodes the call that the registers name.
 
 ghost use Rattle.std.specs.Prelude.{◌≡◌, MatchResult, Some, None};
 ghost use Rattle.sbi_decode.specs.Calls.{call_of};
@@ -6,8 +6,8 @@ ghost use Rattle.sbi_decode.specs.Calls.{call_of};
 use crate::calls::{Call, EXTENSION_ID, NotSupported};
 use crate::registers::Registers;
 
-/// The call that the registers name: the extension id in a7 and the function id in a6, compared as 64-bit words,
-/// arguments in a0 to a5 (SBI, section Binary Encoding).
+/// Decodes the call that the registers name: the extension id in a7 and the function id in a6, compared as 64-bit
+/// words, with arguments in a0 to a5 (SBI, section Binary Encoding).
 pub fn decode(registers: &Registers) -> Result<Call, NotSupported>
     ensures { MatchResult result (λ call.
         call_of registers.now ≡ Some call) (λ _. call_of registers.now ≡ None) }

@@ -22,14 +22,14 @@ impl Model for Registers {
 }
 
 impl Registers {
-    /// All zeros, as at boot.
+    /// Returns registers of zeros, as at boot.
     pub fn new() -> Registers
         ensures { result ≡ zeros }
     {
         Registers { pc: 0, xs: [0; 31] }
     }
 
-    /// The value of xn, for `n` at most 31; x0 reads zero.
+    /// Returns the value of xn, for `n` at most 31; x0 reads zero.
     pub fn get(&self, n: usize) -> u64
         requires { n ≤ 31 }
         ensures { result ≡ x_of self.now n }
@@ -54,14 +54,14 @@ impl Registers {
         }
     }
 
-    /// The program counter, an address in bytes.
+    /// Returns the program counter, a byte address.
     pub fn pc(&self) -> u64
         ensures { result ≡ self.now.pc }
     {
         self.pc
     }
 
-    /// Sets the program counter, and nothing else.
+    /// Sets the program counter and nothing else.
     pub fn set_pc(&mut self, value: u64)
         ensures file { self.new ≡ record self.old { pc = value } }
         ensures pc { self.new.pc ≡ value }

@@ -13,7 +13,7 @@ run_fault_number Read = 3
 run_fault_number Write = 4
 run_fault_number Memory = 5
 
--- how a run ends where no line can be had
+-- the fault of a run when no line can be read
 abbrev pub run_fault : ReadFault → RunFault
 run_fault (LongLine n) = Line n
 run_fault TooManyBytes = TooLong

@@ -1,4 +1,4 @@
--- What comes of an input whose lines are interpreted one after another.
+-- The interpretation of an input line by line.
 use Rattle.std.specs.Prelude.{◌≡◌, ◌⊎◌, ℕ, ◌+◌, ◌^◌, ◌<◌, ◌≤◌, Bool, if◌then◌else◌, List, [], ◌∷◌}
 use Rattle.std.specs.Prelude.{◌++◌, length, take, Option, Some, None, Result, Ok, Err, true, false}
 use Rattle.std.specs.Prelude.{decimal}
@@ -12,13 +12,12 @@ use Rattle.text_lines.specs.declared.line_loop.LineRefusal.{LineRefusal}
 use Rattle.text_lines.specs.declared.line_loop.LineRefusal.TheVariants as refusals
 use Rattle.text_lines.specs.Lines.{AreLines, BeginsLongLine, IsShortLine, without_return}
 
--- what a line does, after that many answers: from one state to the next, with the text of its
--- answer where it has one
+-- the effect of a line after a number of answers: from one state to the next, with the text of its
+-- answer if it has one
 abbrev pub Meaning : Type 0 → Type 1
 Meaning S = S → ℕ → List ℕ → Option (List ℕ) → S → Type 0
 
--- lines that were interpreted in turn, from one state to another, and the answers of those that
--- have one
+-- lines interpreted in turn, from one state to another, and the answers of those that have one
 pub data Does {S : Type 0} (does : Meaning S) (old : S) : List (List ℕ) → List (List ℕ) → S
     → Type 0 where
   none : Does does old [] [] old
@@ -31,12 +30,12 @@ pub data Does {S : Type 0} (does : Meaning S) (old : S) : List (List ℕ) → Li
       → does mid (length answers) (without_return line) (Some text) new
       → Does does old (lines ++ line ∷ []) (answers ++ text ∷ []) new
 
--- the text of the answer after n others, where there is one: its number, and what comes after
--- that
+-- the text of the answer after n others, if there is one: its number, and the part after it
 abbrev pub text_of : Bool → ℕ → List ℕ → Option (List ℕ)
 text_of answered n behind = if answered then Some (decimal (n + 1) ++ behind) else None
 
--- what comes of a line: its answer, given by what comes after its number, or why it has none
+-- the result of a line: its answer, given by the part after its number, or the reason why it has
+-- none
 abbrev pub IsLineResult : {S : Type 0} → Meaning S → (S → List ℕ → Type 0)
     → (S → List ℕ → S → Type 0) → S → ℕ → List ℕ → Result Bool LineRefusal → List ℕ → S → Type 0
 IsLineResult does refuses starves old n line (Ok answered) behind new =
@@ -45,7 +44,7 @@ IsLineResult does refuses starves old n line (Err refusals.NotUnderstood) behind
     refuses old line × (new ≡ old)
 IsLineResult does refuses starves old n line (Err refusals.Memory) behind new = starves old line new
 
--- whether there was a line
+-- the outcome of reading the line
 abbrev pub was_line : Result (Option (Result Bool LineRefusal)) ReadFault → Result Bool ReadFault
 was_line (Ok None) = Ok false
 was_line (Ok (Some said)) = Ok true
@@ -56,27 +55,27 @@ abbrev pub IsNoLine : Result (Option (Result Bool LineRefusal)) ReadFault → Ty
 IsNoLine (Ok (Some said)) = ⊥
 IsNoLine _ = Unit {0}
 
--- how many answers there are with that one
+-- the number of answers, including this one
 abbrev pub counted : ℕ → Option (List ℕ) → ℕ
 counted n None = n
 counted n (Some text) = n + 1
 
--- what was written with that one
+-- the bytes written for this answer
 abbrev pub answer_bytes : Option (List ℕ) → List ℕ
 answer_bytes None = []
 answer_bytes (Some text) = text
 
--- lines, each with its LF
+-- lines, each followed by its LF
 abbrev pub ended : List (List ℕ) → List ℕ
 ended [] = []
 ended (line ∷ lines) = line ++ 10 ∷ ended lines
 
--- the line is at the front of the bytes that have come: before a LF, or at the end of the input
+-- the line is at the front of the bytes read: before an LF, or at the end of the input
 abbrev pub IsFront : List ℕ → Option (List ℕ) → List ℕ → Type 0
 IsFront bytes after line = ((rest : List ℕ) × (bytes ≡ line ++ 10 ∷ rest))
     ⊎ ((0 < length line) × (bytes ≡ line) × IsAtEnd after)
 
--- all of the input was read, and each of its lines interpreted and answered
+-- the whole input was read, and each of its lines interpreted and answered
 pub record DoesAll {S : Type 0} (does : Meaning S) (old new : S)
     (before after held holds : Option (List ℕ)) : Type 0 where
   pub input : List ℕ
@@ -89,7 +88,7 @@ pub record DoesAll {S : Type 0} (does : Meaning S) (old new : S)
   pub done : Does does old lines answers new
   pub written : Appends held holds (concat answers)
 
--- lines that a LF ended were interpreted and answered, and `bytes` came after them
+-- lines that end with an LF were interpreted and answered, and `bytes` follow them
 pub record DoesLines {S : Type 0} (does : Meaning S) (old new : S)
     (before after held holds : Option (List ℕ)) (lines : List (List ℕ)) (bytes : List ℕ) :
     Type 0 where
@@ -110,7 +109,8 @@ pub record StopsAt {S : Type 0} (n : ℕ) (does : Meaning S) (refuses : S → Li
       ⊎ ((line : List ℕ) × IsShortLine line × IsFront bytes after line
       × refuses new (without_return line))
 
--- a byte came after the first 2^40, and the lines that a LF ended among these were interpreted
+-- there was a byte after the first 2^40, and the lines among these that end with an LF were
+-- interpreted
 pub record StopsTooLong {S : Type 0} (does : Meaning S) (old new : S)
     (before after held holds : Option (List ℕ)) : Type 0 where
   pub lines : List (List ℕ)
@@ -121,7 +121,7 @@ pub record StopsTooLong {S : Type 0} (does : Meaning S) (old new : S)
   pub limit : length (ended lines ++ bytes) ≡ 2 ^ 40
   pub more : length beyond ≡ 1
 
--- the lines that a LF ended were interpreted, and no other
+-- only the lines that end with an LF were interpreted
 pub record StopsReading {S : Type 0} (does : Meaning S) (old new : S)
     (before after held holds : Option (List ℕ)) : Type 0 where
   pub lines : List (List ℕ)
@@ -130,7 +130,7 @@ pub record StopsReading {S : Type 0} (does : Meaning S) (old new : S)
   pub few : length (ended lines ++ bytes) ≤ 2 ^ 40
   pub unended : IsShortLine bytes
 
--- a line is in what was read, after lines that were interpreted and have these answers
+-- a line was read after lines that were interpreted and have these answers
 pub record ComesTo {S : Type 0} (does : Meaning S) (old now : S) (before after : Option (List ℕ))
     (answers : List (List ℕ)) (line : List ℕ) : Type 0 where
   pub lines : List (List ℕ)
@@ -141,7 +141,7 @@ pub record ComesTo {S : Type 0} (does : Meaning S) (old now : S) (before after :
   pub short : IsShortLine line
   pub stands : IsFront bytes after line
 
--- a line was interpreted, and of its answer a beginning was written, not all of it
+-- a line was interpreted, and a proper prefix of its answer was written
 pub record StopsWriting {S : Type 0} (does : Meaning S) (old new : S)
     (before after held holds : Option (List ℕ)) : Type 0 where
   pub now : S
@@ -154,7 +154,7 @@ pub record StopsWriting {S : Type 0} (does : Meaning S) (old new : S)
   pub less : part < length text
   pub written : Appends held holds (concat answers ++ take part text)
 
--- a line was interpreted for which memory was refused, and it has no answer
+-- a line was interpreted for which an allocation failed, and it has no answer
 pub record StopsForMemory {S : Type 0} (does : Meaning S) (starves : S → List ℕ → S
     → Type 0) (old new : S) (before after held holds : Option (List ℕ)) : Type 0 where
   pub now : S
@@ -164,12 +164,12 @@ pub record StopsForMemory {S : Type 0} (does : Meaning S) (starves : S → List 
   pub starved : starves now (without_return line) new
   pub written : Appends held holds (concat answers)
 
--- a read failed where the run ended so, and otherwise none did
+-- one read failed if the run ended for that reason, and none otherwise
 abbrev pub CountsReads : Result (Unit {0}) RunFault → ℕ → ℕ → Type 0
 CountsReads (Err faults.Read) before after = GrowsByOne before after
 CountsReads _ before after = after ≡ before
 
--- a write failed or took none where the run ended so, and otherwise none did
+-- one write failed or was stalled if the run ended for that reason, and none otherwise
 abbrev pub CountsWrites : Result (Unit {0}) RunFault → ℕ → ℕ → ℕ → ℕ → Type 0
 CountsWrites (Err faults.Write) failures failed stalls stalled =
     WriteFails failures failed stalls stalled

@@ -1,4 +1,4 @@
--- What a reader of lines has of its input, and what it answers.
+-- The state of a line reader, and its results.
 use Rattle.std.specs.Prelude.{◌≡◌, ◌⊎◌, ℕ, ◌+◌, ◌<◌, Bool, true, false, List, [], ◌∷◌, ◌++◌, length}
 use Rattle.std.specs.Prelude.{take, drop, nat_lt, Option, Result, Ok, Err}
 use Rattle.std.specs.Io.KnownBytes.{Consumes, IsAtEnd}
@@ -8,39 +8,38 @@ use Rattle.text_lines.specs.declared.fault.ReadFault.TheVariants.{LongLine, TooM
 use Rattle.text_lines.specs.declared.lines.LineReader.{LineReader}
 use Rattle.text_lines.specs.Lines.{has_no_end, IsShortLine, BeginsLongLine, without_return}
 
--- the line that was handed out last, without its end
+-- the last line read, without its end
 abbrev pub line_of : {size : ℕ} → LineReader size → List ℕ
 line_of reader = take reader.text_len reader.buffer
 
--- the bytes after it that have come
+-- the bytes read after that line
 abbrev pub pending_of : {size : ℕ} → LineReader size → List ℕ
 pending_of reader = drop reader.taken reader.buffer
 
--- how many lines were handed out, how many bytes came, and how many may
+-- the number of lines read
 abbrev pub number_of : {size : ℕ} → LineReader size → ℕ
 number_of reader = reader.number
 
--- the bytes that a reader has read
+-- the number of bytes that a reader has read
 abbrev pub came_of : {size : ℕ} → LineReader size → ℕ
 came_of reader = reader.came
 
--- the most bytes that a reader reads
+-- the maximal number of bytes that a reader reads
 abbrev pub most_of : {size : ℕ} → LineReader size → ℕ
 most_of reader = reader.limit
 
--- whether that line was the last, which lacks its LF
+-- that line was the last and lacks its LF
 abbrev pub ended_of : {size : ℕ} → LineReader size → Bool
 ended_of reader = reader.ended
 
--- these bytes left the source, came to the reader and are counted; none did where a line was there
--- already
+-- these bytes were read from the source and counted; none were if a whole line was in the buffer
 pub record Came {size : ℕ} (old new : LineReader size) (before after : Option (List ℕ))
     (bytes : List ℕ) : Type 0 where
   pub consumed : Consumes before after bytes
   pub counted : came_of new ≡ came_of old + length bytes
   pub needed : (bytes ≡ []) ⊎ (has_no_end (pending_of old) ≡ true)
 
--- a line was handed out, at the front of the bytes that were there
+-- a line was returned from the front of the available bytes
 pub record Hands {size : ℕ} (old new : LineReader size) (bytes : List ℕ) (after : Option (List ℕ))
     (line : List ℕ) : Type 0 where
   pub short : IsShortLine line
@@ -50,12 +49,12 @@ pub record Hands {size : ℕ} (old new : LineReader size) (bytes : List ℕ) (af
       ⊎ ((0 < length line) × (bytes ≡ line) × (pending_of new ≡ []) × IsAtEnd after
       × (ended_of new ≡ true))
 
--- the bytes stay there, and no line was handed out
+-- the bytes stay in the buffer, and no line was returned
 pub record Holds {size : ℕ} (old new : LineReader size) (bytes : List ℕ) : Type 0 where
   pub pending : pending_of new ≡ bytes
   pub number : number_of new ≡ number_of old
 
--- the answer of a reader, by the bytes that were there in the end
+-- the result of a reader, by the bytes finally available
 abbrev pub Answers : {size : ℕ} → Result Bool ReadFault → LineReader size → LineReader size → List ℕ
     → Option (List ℕ) → Type 0
 Answers (Ok true) old new bytes after = (line : List ℕ) × Hands old new bytes after line
@@ -66,24 +65,24 @@ Answers (Err TooManyBytes) old new bytes after = (came_of new ≡ most_of old) �
     × Holds old new bytes
 Answers (Err Device) old new bytes after = IsShortLine bytes × Holds old new bytes
 
--- a byte past the limit left the source too, where that is the answer
+-- one byte past the limit was read too if that is the result
 abbrev pub BeyondLimit : Result Bool ReadFault → List ℕ → Type 0
 BeyondLimit (Err TooManyBytes) beyond = length beyond ≡ 1
 BeyondLimit _ beyond = beyond ≡ []
 
--- the source failed in this call, where that is the answer, and otherwise it did not
+-- one read of the source failed in this call if that is the result, and none otherwise
 abbrev pub FailsOnRead : Result Bool ReadFault → ℕ → ℕ → Type 0
 FailsOnRead (Err Device) before after = GrowsByOne before after
 FailsOnRead _ before after = after ≡ before
 
--- what a call did
+-- the effect of a call
 abbrev pub NextLine : {size : ℕ} → Result Bool ReadFault → LineReader size → LineReader size
     → Option (List ℕ) → Option (List ℕ) → Type 0
 NextLine result old new before after = (bytes beyond : List ℕ) × (middle : Option (List ℕ))
     × Came old new before middle bytes × Consumes middle after beyond × BeyondLimit result beyond
     × Answers result old new (pending_of old ++ bytes) after
 
--- the same of one read: new bytes come after the others, and none came at the end alone
+-- the effect of one read: new bytes follow the others, and there are none only at the end
 abbrev pub ReadsMore : {size : ℕ} → Result Bool ReadFault → LineReader size → LineReader size
     → Option (List ℕ) → Option (List ℕ) → List ℕ → Type 0
 ReadsMore (Ok more) old new before after bytes = Consumes before after bytes

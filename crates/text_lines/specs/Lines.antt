@@ -8,11 +8,11 @@ use Rattle.text_lines.specs.Streams.{GrowsByOne}
 use Rattle.text_lines.specs.declared.fault.ReadFault.{ReadFault}
 use Rattle.text_lines.specs.declared.fault.ReadFault.TheVariants.{LongLine, TooManyBytes, Device}
 
--- no LF among the bytes
+-- the bytes contain no LF
 abbrev pub has_no_end : List ℕ → Bool
 has_no_end bytes = list_all (λ b. not (b == 10)) bytes
 
--- a line that may come before a LF: its CR is counted
+-- a line that may precede an LF; its CR counts
 abbrev pub IsShortLine : List ℕ → Type 0
 IsShortLine line = (has_no_end line ≡ true) × (length line ≤ 1023)
 
@@ -25,14 +25,14 @@ abbrev pub without_return : List ℕ → List ℕ
 without_return line = if slice_index line (length line - 1) == 13 then take (length line - 1) line
     else line
 
--- bytes that begin with a line of that many bytes, whose last is no CR, and its LF
+-- the bytes begin with a line of `len` bytes, the last of which is not a CR, and its LF
 pub record BeginsLine (len : ℕ) (bytes : List ℕ) : Type 0 where
   pub short : IsShortLine (take len bytes)
   pub whole : without_return (take len bytes) ≡ take len bytes
   pub rest : List ℕ
   pub parts : bytes ≡ take len bytes ++ 10 ∷ rest
 
--- the line comes before a LF and the rest, or it is the last, lacks its LF and has a byte
+-- the line is followed by an LF and the rest, or it is the last, lacks its LF and is not empty
 abbrev pub EndsLine : List ℕ → List ℕ → List ℕ → Type 0
 EndsLine input line rest = (input ≡ line ++ 10 ∷ rest)
     ⊎ ((0 < length line) × (input ≡ line) × (rest ≡ []))
@@ -47,26 +47,26 @@ AreLines input (line ∷ lines) = (has_no_end line ≡ true) × (rest : List ℕ
 abbrev pub is_lf : ℕ → Bool
 is_lf b = b == 10
 
--- a byte before some lines begins the first of them
+-- a byte before some lines becomes the first of their first line
 abbrev pub begun : ℕ → List (List ℕ) → List (List ℕ)
 begun b [] = (b ∷ []) ∷ []
 begun b (line ∷ lines) = (b ∷ line) ∷ lines
 
--- the lines of an input, computed: the pieces that LF ends; what is empty after the last LF is none
+-- the lines of an input, computed: the pieces that end with an LF, and a non-empty rest
 abbrev pub raw_lines : List ℕ → List (List ℕ)
 raw_lines [] = []
 raw_lines (b ∷ bytes) = if is_lf b then [] ∷ raw_lines bytes else begun b (raw_lines bytes)
 
--- these are its lines
+-- the computed lines are the lines of each input
 abbrev pub AreItsLines : Type 0
 AreItsLines = (input : List ℕ) → AreLines input (raw_lines input)
 
--- no input is two lists of lines
+-- each input has only one list of lines
 abbrev pub OneListOfLines : Type 0
 OneListOfLines = (input : List ℕ) (lines others : List (List ℕ)) → AreLines input lines
     → AreLines input others → lines ≡ others
 
--- what one read where no byte may follow says: there was none, there was one, or the source failed
+-- the result of one read where the source should be at its end: it is, it is not, or it failed
 abbrev pub EndsInput : Result (Unit {0}) ReadFault → Option (List ℕ) → Option (List ℕ) → ℕ → ℕ
     → Type 0
 EndsInput (Ok done) before after failures failed = Consumes before after [] × IsAtEnd after
@@ -77,6 +77,6 @@ EndsInput (Err Device) before after failures failed = Consumes before after []
     × GrowsByOne failures failed
 EndsInput (Err (LongLine n)) before after failures failed = ⊥
 
--- a line without its LF: what comes before the first
+-- a line without its LF: the bytes before the first LF
 abbrev pub unended : List ℕ → List ℕ
 unended line = before_first (λ b. b == 10) line

@@ -1,4 +1,4 @@
--- A text after a number, in two arrays.
+-- A numbered text, in two arrays.
 use Rattle.std.specs.Prelude.{ℕ, List, ◌∷◌, ◌++◌, take}
 use Rattle.text_lines.specs.declared.line_sink.Numbered.{Numbered}
 

@@ -1,4 +1,4 @@
--- Hexadecimal numbers of lines that are written.
+-- Hexadecimal numbers in output lines.
 use Rattle.std.specs.Prelude.{ℕ, ◌+◌, ◌/◌, ◌%◌, zero, suc, List, [], ◌∷◌, ◌++◌, nat_lt}
 use Rattle.std.specs.Prelude.{if◌then◌else◌}
 

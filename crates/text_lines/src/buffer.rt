@@ -1,4 +1,4 @@
-//! The bytes of a source that have come and are not yet used, in an array of fixed size.
+//! The bytes of a source that were read but not used yet, in an array of fixed size.
 
 ghost use Rattle.std.specs.Prelude.{◌≡◌, ◌+◌, ◌-◌, ◌^◌, ◌<◌, ◌≤◌, ◌++◌, ℕ, List, [], length, drop, MatchResult};
 ghost use Rattle.std.specs.Io.KnownBytes.{Consumes, Keeps, IsAtEnd};
@@ -7,7 +7,7 @@ ghost use Rattle.text_lines.specs.Streams.{CountsFailure};
 use crate::streams::{DeviceFault, Source};
 use std::marker::Model;
 
-/// Bytes that have come and are not yet used, in their order. There is room for `SIZE`.
+/// Bytes that were read but not used yet, in their order, with room for `SIZE`.
 #[derive(Drop)]
 pub struct Buffer<const SIZE: usize> {
     bytes: [u8; SIZE],
@@ -26,7 +26,7 @@ impl<const SIZE: usize> Model for Buffer<SIZE> {
 }
 
 impl<const SIZE: usize> Buffer<SIZE> {
-    /// No bytes.
+    /// Returns an empty buffer.
     pub fn new() -> Buffer<SIZE>
         ensures { result ≡ [] }
     {
@@ -37,18 +37,18 @@ impl<const SIZE: usize> Buffer<SIZE> {
         }
     }
 
-    /// The bytes.
+    /// Returns the bytes.
     #[inline(always)]
     pub fn as_slice(&self) -> &[u8]
         ensures value { result.now ≡ self.now }
         ensures most { length self.now ≤ SIZE }
     {
-        // Of an array whose length is a parameter the prover knows the length where the whole of it is taken first.
+        // The prover knows the length of an array of parametric size only if the whole of it is borrowed first.
         let all = &self.bytes[..];
         &all[self.start..self.end]
     }
 
-    /// Lets go of the first bytes.
+    /// Discards the first `count` bytes.
     #[inline(always)]
     pub fn consume(&mut self, count: usize)
         requires { count ≤ length self.old }
@@ -57,8 +57,8 @@ impl<const SIZE: usize> Buffer<SIZE> {
         self.start += count;
     }
 
-    /// Reads at most `most` bytes after the others, and says how many; none at the end of the source alone. The bytes move to
-    /// the front of the array first.
+    /// Reads at most `most` more bytes and returns their number, which is zero only at the end of the source. Moves the
+    /// bytes to the front of the array first.
     pub fn fill<R: Source>(&mut self, source: &mut R, most: usize) -> Result<usize, DeviceFault>
         requires room { length self.old < SIZE }
         requires some { 0 < most }
@@ -70,7 +70,7 @@ impl<const SIZE: usize> Buffer<SIZE> {
         ensures failures { CountsFailure result (R.failures source.old) (R.failures source.new) }
     {
         let held = self.end - self.start;
-        // (the whole array first, as in `as_slice`)
+        // (borrows the whole array first, as in `as_slice`)
         let all = &mut self.bytes[..];
         all.copy_within(self.start..self.end, 0);
         self.start = 0;

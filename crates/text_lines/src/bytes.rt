@@ -1,11 +1,11 @@
-//! Single bytes of a line, and how a word of it compares with a text.
+//! Classifies single bytes of a line, and compares words with texts.
 
 ghost use Rattle.std.specs.Prelude.{◌≡◌, bytes_eq, option_map};
 ghost use Rattle.std.specs.Str.{str_eq_ignore_ascii_case};
 ghost use Rattle.text_lines.specs.Bytes.{after_name, after_text, begins_with, has_mark};
 ghost use Rattle.text_lines.specs.Words.{is_allowed, is_blank};
 
-/// Whether a byte separates words: a space or a tab.
+/// Returns whether a byte separates words: a space or a tab.
 #[inline(always)]
 pub fn is_blank(byte: u8) -> bool
     ensures { result ≡ is_blank byte }
@@ -13,7 +13,7 @@ pub fn is_blank(byte: u8) -> bool
     byte == b' ' || byte == b'\t'
 }
 
-/// Whether a byte is allowed outside a comment: a tab, or a visible character of ASCII, the space among them.
+/// Returns whether a byte is allowed outside a comment: a tab, a space or a visible ASCII character.
 #[inline(always)]
 pub fn is_allowed(byte: u8) -> bool
     ensures { result ≡ is_allowed byte }
@@ -21,14 +21,14 @@ pub fn is_allowed(byte: u8) -> bool
     byte == b'\t' || (byte >= 32 && byte <= 126)
 }
 
-/// Whether a word is a text.
+/// Returns whether a word is a text.
 pub fn is_text(word: &[u8], text: &[u8]) -> bool
     ensures { result ≡ bytes_eq word.now text.now }
 {
     word == text
 }
 
-/// What comes after a text that a word begins with.
+/// Returns the rest of a word that begins with a text.
 pub fn after_text<'a>(word: &'a [u8], text: &[u8]) -> Option<&'a [u8]>
     ensures { option_map (λ rest. rest.now) result ≡ after_text word.now text.now }
 {
@@ -42,21 +42,21 @@ pub fn after_text<'a>(word: &'a [u8], text: &[u8]) -> Option<&'a [u8]>
     }
 }
 
-/// Whether a word is a name, in upper or lower case.
+/// Returns whether a word is a name, in upper or lower case.
 pub fn is_name(word: &[u8], name: &[u8]) -> bool
     ensures { result ≡ str_eq_ignore_ascii_case word.now name.now }
 {
     word.eq_ignore_ascii_case(name)
 }
 
-/// Whether a word begins with a name, in upper or lower case.
+/// Returns whether a word begins with a name, in upper or lower case.
 pub fn begins_with(word: &[u8], name: &[u8]) -> bool
     ensures { result ≡ begins_with word.now name.now }
 {
     name.len() <= word.len() && is_name(&word[..name.len()], name)
 }
 
-/// What comes after a name that a word begins with, in upper or lower case.
+/// Returns the rest of a word that begins with a name, in upper or lower case.
 pub fn after_name<'a>(word: &'a [u8], name: &[u8]) -> Option<&'a [u8]>
     ensures { option_map (λ rest. rest.now) result ≡ after_name word.now name.now }
 {
@@ -67,7 +67,7 @@ pub fn after_name<'a>(word: &'a [u8], name: &[u8]) -> Option<&'a [u8]>
     }
 }
 
-/// Whether a line begins with a byte order mark.
+/// Returns whether a line begins with a byte order mark.
 pub fn has_mark(line: &[u8]) -> bool
     ensures { result ≡ has_mark line.now }
 {

@@ -1,4 +1,4 @@
-//! Where things are in a text: the words of a line, each with how many bytes of the line come before it.
+//! The words of a line with their positions.
 
 ghost use Rattle.std.specs.Prelude.{◌≡◌, ◌==◌, ◌≤◌, [], ◌∷◌, length, MatchOption, IfSome};
 ghost use Rattle.std.specs.List.{position_or_len};
@@ -7,7 +7,7 @@ ghost use Rattle.text_lines.specs.Columns.{begin_from, end_from, end_of, placed_
 use crate::lexical::{blanks_len, word_len};
 use memchr::memchr;
 
-/// A word of a line, and how many bytes come before it and before its end; without bytes where there is none.
+/// A word of a line, and the number of bytes before it and before its end. The word is empty if there is none.
 #[derive(Clone, Copy)]
 pub struct Placed<'a> {
     pub before: usize,
@@ -15,7 +15,7 @@ pub struct Placed<'a> {
     pub end: usize,
 }
 
-/// How many bytes of a text come before the first that is this one.
+/// Returns the number of bytes before the first `mark`.
 #[inline(always)]
 pub fn len_before(mark: u8, text: &[u8]) -> usize
     ensures within { result ≤ length text.now }
@@ -24,7 +24,7 @@ pub fn len_before(mark: u8, text: &[u8]) -> usize
     memchr(mark, text).unwrap_or(text.len())
 }
 
-/// The first word that begins at a place or after it.
+/// Returns the first word that begins at or after a position.
 pub fn word_from(text: &[u8], at: usize) -> Placed<'_>
     requires { at ≤ length text.now }
     ensures before { result.before ≡ begin_from text.now at }
@@ -42,7 +42,7 @@ pub fn word_from(text: &[u8], at: usize) -> Placed<'_>
     }
 }
 
-/// The next word after a place, where there is one.
+/// Returns the next word after a position, if there is one.
 pub fn next_word(text: &[u8], at: usize) -> Option<Placed<'_>>
     requires { at ≤ length text.now }
     ensures word { MatchOption result (placed_at text.now at ≡ []) (λ placed.

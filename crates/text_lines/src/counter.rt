@@ -1,22 +1,22 @@
-//! A number's digits, from which those of the next one are made.
+//! Decimal digits of a number, incremented in place.
 
 ghost use Rattle.std.specs.Prelude.{◌≡◌, ◌+◌, ◌<◌, ◌≤◌, ◌^◌, decimal};
 ghost use Rattle.text_lines.specs.Counters.{digits_of};
 
 use crate::written::{Line, push_decimal};
 
-/// The digits of a number in decimal. Its last digit is separate: the others are those of the next number too, where
-/// that is no multiple of ten.
+/// The decimal digits of a number. The last digit is separate, because the others are also those of the next number
+/// unless that is a multiple of ten.
 #[derive(Drop)]
 pub struct Counter {
     pub front: [u8; 20],
-    /// How many of these the number has before its last.
+    /// The number of digits before the last.
     pub len: usize,
     pub last: u8,
 }
 
 impl Counter {
-    /// The digits of a number.
+    /// Returns the digits of a number.
     pub fn of(n: u64) -> Counter
         ensures digits { digits_of result ≡ decimal n }
         ensures len { result.len ≤ 20 }
@@ -37,7 +37,7 @@ impl Counter {
         Counter { front, len, last }
     }
 
-    /// Makes the digits of n those of the next number.
+    /// Increments the digits of n.
     #[inline(always)]
     pub fn raise(&mut self, n: u64)
         requires digits { digits_of self.old ≡ decimal n }
@@ -50,7 +50,7 @@ impl Counter {
             self.last += 1;
             return;
         }
-        // Nine of ten carries end here, and no digits are made anew.
+        // Nine of ten carries end here without formatting the number again.
         if self.len > 0 && self.front[self.len - 1] < b'9' {
             self.front[self.len - 1] += 1;
             self.last = b'0';
@@ -59,7 +59,7 @@ impl Counter {
         self.renew(n + 1);
     }
 
-    /// Makes the digits those of another number. It is not inlined, as one number in a hundred needs it.
+    /// Sets the digits to those of a number. Not inlined, because only one number in a hundred needs it.
     #[cold]
     #[inline(never)]
     fn renew(&mut self, n: u64)

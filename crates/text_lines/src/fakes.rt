@@ -1,22 +1,22 @@
-//! Devices for tests, which give or take few bytes at a time and fail where they are set to. What they hold and what each
-//! call answers is known to a proof too.
+//! Devices for tests that return or accept few bytes at a time and fail on request. Contracts define their contents and
+//! the result of each call.
 
 ghost use Rattle.std.specs.Prelude.{◌≡◌, ◌<◌, [], max};
 
 use crate::streams::{DeviceFault, Sink, Source};
 use arrayvec::ArrayVec;
 
-/// How many bytes a [`PieceSink`] has room for.
+/// The capacity of a [`PieceSink`] in bytes.
 pub const ROOM: usize = 4096;
 
-/// A source that gives at most `piece` bytes a read, and one where that is 0.
+/// A source that returns at most `piece` bytes per read, and one if `piece` is 0.
 #[derive(Drop)]
 pub struct PieceSource<'a> {
     bytes: &'a [u8],
     piece: usize,
     failing: Option<u64>,
     reads: u64,
-    /// How often a read has failed.
+    /// The number of reads that have failed.
     pub failures: u64,
     ghost some: { 0 < piece },
 }
@@ -24,7 +24,7 @@ pub struct PieceSource<'a> {
 impl<'a> PieceSource<'a> {
     ghost use Rattle.text_lines.specs.Fakes.{failing_read, piece_of, reads_of, rest_of};
 
-    /// A source of these bytes. Where `failing` is Some(k), its k-th read fails, counted from 1.
+    /// Returns a source of these bytes. If `failing` is Some(k), its k-th read fails, counted from 1.
     pub fn new(bytes: &'a [u8], piece: usize, failing: Option<u64>) -> PieceSource<'a>
         ensures failures { result.failures ≡ 0 }
         ensures rest { rest_of result ≡ bytes.now }
@@ -41,14 +41,14 @@ impl<'a> PieceSource<'a> {
         }
     }
 
-    /// How many reads there were, those that failed among them.
+    /// Returns the number of reads, including failed ones.
     pub fn reads(&self) -> u64
         ensures { result ≡ reads_of self.now }
     {
         self.reads
     }
 
-    /// The bytes that are still to come.
+    /// Returns the bytes not read yet.
     pub fn rest(&self) -> &'a [u8]
         ensures { result.now ≡ rest_of self.now }
     {
@@ -88,24 +88,23 @@ impl Source for PieceSource<'_> {
     }
 }
 
-/// A sink that takes at most `piece` bytes a write, and at most [`ROOM`] in all. With 0 it takes
-/// none.
+/// A sink that accepts at most `piece` bytes per write and at most [`ROOM`] in total. If `piece` is 0 it accepts none.
 #[derive(Drop)]
 pub struct PieceSink {
     taken: ArrayVec<u8, ROOM>,
     piece: usize,
     failing: Option<u64>,
     writes: u64,
-    /// How often a write has failed.
+    /// The number of writes that have failed.
     pub failures: u64,
-    /// How often a write took none of some bytes.
+    /// The number of writes that accepted none of their bytes.
     pub stalls: u64,
 }
 
 impl PieceSink {
     ghost use Rattle.text_lines.specs.Fakes.{failing_write, width_of, writes_of, written_of};
 
-    /// A sink that holds nothing. Where `failing` is Some(k), its k-th write fails, counted from 1.
+    /// Returns an empty sink. If `failing` is Some(k), its k-th write fails, counted from 1.
     pub fn new(piece: usize, failing: Option<u64>) -> PieceSink
         ensures failures { result.failures ≡ 0 }
         ensures stalls { result.stalls ≡ 0 }
@@ -124,14 +123,14 @@ impl PieceSink {
         }
     }
 
-    /// How many writes there were, those that failed among them.
+    /// Returns the number of writes, including failed ones.
     pub fn writes(&self) -> u64
         ensures { result ≡ writes_of self.now }
     {
         self.writes
     }
 
-    /// The bytes that it has taken.
+    /// Returns the bytes that the sink has accepted.
     pub fn written(&self) -> &[u8]
         ensures { result.now ≡ written_of self.now }
     {

@@ -1,16 +1,16 @@
-//! Why no more lines can be read, and why a run over lines ended early.
+//! Reasons why no more lines can be read, and why a run over lines ended early.
 
 ghost use Rattle.text_lines.specs.Faults.{run_fault, run_fault_number};
 
 use thiserror::Error;
 
-/// Why a reader of lines hands out no line.
+/// The reason why a reader returns no line.
 #[derive(Clone, Copy, Debug, PartialEq, Eq, Error)]
 pub enum ReadFault {
     /// The line of this number, from 1, has more than 1023 bytes before its LF.
     #[error("line {0} is too long")]
     LongLine(u64),
-    /// More bytes came than the reader's limit.
+    /// The source has more bytes than the reader's limit.
     #[error("too many bytes")]
     TooManyBytes,
     /// The source failed.
@@ -18,22 +18,22 @@ pub enum ReadFault {
     Device,
 }
 
-/// Why a run over the lines of an input ended early.
+/// The reason why a run over the lines of an input ended early.
 #[derive(Clone, Copy, Debug, PartialEq, Eq, Error)]
 pub enum RunFault {
     /// The line of this number, from 1, is not understood.
     #[error("line {0} is not understood")]
     Line(u64),
-    /// More than 2^40 bytes came.
+    /// The source has more than 2^40 bytes.
     #[error("too large")]
     TooLong,
     /// The source failed.
     #[error("cannot read")]
     Read,
-    /// The sink failed, or took none of some bytes.
+    /// The sink failed, or accepted none of the bytes of a write.
     #[error("cannot write")]
     Write,
-    /// Memory was refused.
+    /// An allocation failed.
     #[error("out of memory")]
     Memory,
 }
@@ -41,7 +41,7 @@ pub enum RunFault {
 impl RunFault {
     ghost use Rattle.std.specs.Prelude.{◌≡◌};
 
-    /// Its number, from 1 to 5.
+    /// Returns the number of the fault, from 1 to 5.
     pub fn number(self) -> u8
         ensures { result ≡ run_fault_number self }
     {

@@ -1,4 +1,4 @@
-//! The lines of a file that is all there, and the parts of one.
+//! The lines of a file in memory, and their parts.
 
 ghost use Rattle.std.specs.Prelude.{◌≡◌, ◌∷◌, ◌==◌, ◌<◌, ◌≤◌, length};
 ghost use Rattle.std.specs.List.{before_first, prefix_len};
@@ -8,7 +8,7 @@ ghost use Rattle.text_lines.specs.Words.{content_of, is_allowed};
 use crate::bytes::is_allowed;
 use crate::columns::len_before;
 
-/// The first line, and what comes after its LF.
+/// Returns the first line, and the bytes after its LF.
 pub fn split_line(bytes: &[u8]) -> (&[u8], &[u8])
     requires { 0 < length bytes.now }
     ensures lines { raw_lines bytes.now ≡ result.0.now ∷ raw_lines result.1.now }
@@ -21,7 +21,7 @@ pub fn split_line(bytes: &[u8]) -> (&[u8], &[u8])
     (&bytes[..len], &bytes[len + 1..])
 }
 
-/// A line without its LF.
+/// Returns a line without its LF.
 pub fn unended(line: &[u8]) -> &[u8]
     ensures value { result.now ≡ unended line.now }
     ensures most { length result.now ≤ length line.now }
@@ -29,7 +29,7 @@ pub fn unended(line: &[u8]) -> &[u8]
     &line[..len_before(b'\n', line)]
 }
 
-/// How many bytes come before the first that may not occur outside a comment.
+/// Returns the number of bytes before the first that is not allowed outside a comment.
 pub fn allowed_len(line: &[u8]) -> usize
     ensures within { result ≤ length line.now }
     ensures len { result ≡ prefix_len is_allowed line.now }
@@ -42,7 +42,7 @@ pub fn allowed_len(line: &[u8]) -> usize
     line.len()
 }
 
-/// The line without its comment.
+/// Returns the line without its comment.
 pub fn content_of(line: &[u8]) -> &[u8]
     ensures { result.now ≡ content_of line.now }
 {

@@ -1,4 +1,4 @@
-//! The bytes that are held for a writer, in an array of fixed size on the heap.
+//! The bytes held for a writer, in an array of fixed size on the heap.
 
 ghost use Rattle.std.specs.Prelude.{◌≡◌, ◌+◌, ◌-◌, ◌<◌, ◌≤◌, ◌++◌, [], ◌∷◌, IfOk, length, take, drop};
 ghost use Rattle.text_lines.specs.Numbered.{numbered_text};
@@ -7,16 +7,16 @@ use crate::line_sink::{DIGITS_ROOM, Numbered, TEXT_ROOM};
 use std::alloc::{AllocError, Global};
 use std::marker::Model;
 
-/// How many bytes are held at most. A signal that ends the program can lose that many.
+/// The maximal number of bytes held. A signal that ends the program can lose that many.
 pub const HELD: usize = 32768;
 
-/// How many bytes after a number [`HeldBytes::push_numbered`] copies. Nearly all answers have fewer.
+/// The number of bytes after a number that [`HeldBytes::push_numbered`] copies. Nearly all answers have fewer.
 pub const COPIED: usize = 48;
 
-/// How many bytes it may write: those, a number's last digit, and the others.
+/// The number of bytes that [`HeldBytes::push_numbered`] may write: those, a number's last digit, and its other digits.
 pub const MOST: usize = DIGITS_ROOM + 1 + COPIED;
 
-/// Bytes that a writer is to have, in their order.
+/// Bytes to be written to a writer, in their order.
 #[derive(Drop)]
 pub struct HeldBytes {
     bytes: Box<[u8; HELD]>,
@@ -34,7 +34,7 @@ impl Model for HeldBytes {
 }
 
 impl HeldBytes {
-    /// No bytes. It is not inlined, so that no caller has the array among its locals.
+    /// Allocates an empty array. Not inlined, so that no caller has the array among its locals.
     #[inline(never)]
     pub fn new(alloc: Global) -> Result<HeldBytes, AllocError>
         ensures { IfOk result (λ held. held ≡ []) }
@@ -43,7 +43,7 @@ impl HeldBytes {
         Ok(HeldBytes { bytes, len: 0 })
     }
 
-    /// The bytes.
+    /// Returns the bytes.
     #[inline(always)]
     pub fn as_slice(&self) -> &[u8]
         ensures value { result.now ≡ self.now }
@@ -52,7 +52,7 @@ impl HeldBytes {
         &self.bytes[..self.len]
     }
 
-    /// How many bytes there are.
+    /// Returns the number of bytes.
     #[inline(always)]
     pub fn len(&self) -> usize
         ensures { result ≡ length self.now }
@@ -60,7 +60,7 @@ impl HeldBytes {
         self.as_slice().len()
     }
 
-    /// How many more bytes there is room for.
+    /// Returns the number of bytes that still fit.
     #[inline(always)]
     pub fn room(&self) -> usize
         ensures { result + length self.now ≡ 32768 }
@@ -79,7 +79,8 @@ impl HeldBytes {
         self.len = end;
     }
 
-    /// Appends the first digits of a number. All of the array is copied in any case, as in [`push_front`](HeldBytes::push_front).
+    /// Appends the first digits of a number. Always copies the whole array, as in
+    /// [`push_front`](HeldBytes::push_front).
     #[inline(always)]
     fn push_digits(&mut self, digits: &[u8; DIGITS_ROOM], count: usize)
         requires room { length self.old + 20 ≤ 32768 }
@@ -101,8 +102,8 @@ impl HeldBytes {
         self.len += 1;
     }
 
-    /// Appends the first bytes of a short text. [`COPIED`] are copied in any case, without a call and without a branch on how many are
-    /// appended. They go through an array that nothing else can be in, or the compiler would ask where text and bytes overlap.
+    /// Appends the first bytes of a short text. Always copies [`COPIED`] bytes, which takes neither a call nor a branch
+    /// on `len`. They go through a local array, so that the compiler need not check whether text and bytes overlap.
     #[inline(always)]
     fn push_front(&mut self, text: &[u8; TEXT_ROOM], len: usize)
         requires room { length self.old + 48 ≤ 32768 }
@@ -115,7 +116,7 @@ impl HeldBytes {
         self.len += len;
     }
 
-    /// Appends a numbered text. No copy reads what another has written, so none waits for one.
+    /// Appends a numbered text. No copy reads bytes that another has written, so none waits for another.
     #[inline(always)]
     pub fn push_numbered(&mut self, text: Numbered<'_>)
         requires room { length self.old + 69 ≤ 32768 }
@@ -128,7 +129,7 @@ impl HeldBytes {
         self.push_front(text.text, text.text_len);
     }
 
-    /// Lets go of the first bytes. Those after them move to the front.
+    /// Discards the first `count` bytes. The bytes after them move to the front.
     pub fn drop_front(&mut self, count: usize)
         requires { count ≤ length self.old }
         ensures { self.new ≡ drop count self.old }

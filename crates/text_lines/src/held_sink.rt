@@ -1,4 +1,4 @@
-//! A sink that holds bytes for a writer of std, and hands them on in few writes.
+//! A sink that collects bytes for a writer of the standard library and passes them on in few writes.
 
 ghost use Rattle.std.specs.Prelude.{◌≡◌, ◌≤◌, ◌+◌, [], IfOk, length, take, true, false, ◌<◌, Ok};
 ghost use Rattle.std.specs.Io.KnownBytes.{Appends, Keeps, WriteAppends};
@@ -13,9 +13,10 @@ use crate::streams::{DeviceFault, Sink};
 use std::alloc::{AllocError, Global};
 use std::io::Write;
 
-/// A sink over a writer of std. It holds up to 32768 bytes, and hands them on where more come, where it is flushed and where it is
-/// closed. What a write of the writer leaves stays held, in its order. Bytes that are let go of with the sink are not written:
-/// [`close`](HeldSink::close) ends it. A call that a signal interrupts is a failure here, so the writer tries it again by itself.
+/// A sink that holds up to 32768 bytes for a writer of the standard library. It passes them on when more bytes come,
+/// when it is flushed and when it is closed. Bytes that the writer does not accept stay held, in their order. Dropping
+/// the sink discards the held bytes, so end it with [`close`](HeldSink::close). A call that a signal interrupts counts
+/// as a failure here, so the writer itself must retry.
 #[derive(Drop)]
 pub struct HeldSink<T> {
     writer: T,
@@ -25,7 +26,7 @@ pub struct HeldSink<T> {
 }
 
 impl<T> HeldSink<T> {
-    /// Counts a failure.
+    /// Counts a failed write.
     #[tactic(auto, unfolding(crate::specs::Streams::GrowsByOne))]
     fn fault(&mut self) -> DeviceFault
         ensures failures { GrowsByOne (failed_writes self.old) (failed_writes self.new) }
@@ -37,7 +38,7 @@ impl<T> HeldSink<T> {
         DeviceFault
     }
 
-    /// The sink over a writer that has not failed yet. The writer is let go of where memory is refused.
+    /// Wraps a writer that has not failed yet. The writer is dropped if the allocation fails.
     pub fn new(alloc: Global, writer: T) -> Result<HeldSink<T>, AllocError>
     where
         T: Drop,
@@ -56,7 +57,8 @@ impl<T> HeldSink<T> {
     }
 }
 
-/// Writes bytes in as many writes as it takes, until all are written, one fails or one takes none. Says how many were written.
+/// Writes bytes with as many writes as it takes, until all are written or a write fails or accepts none. Returns the
+/// number of bytes written.
 fn write_out<T: Write>(writer: &mut T, bytes: &[u8]) -> usize
     ensures bound { result ≤ length bytes.now }
     ensures bytes { Appends (T.contents writer.old) (T.contents writer.new)
@@ -73,7 +75,7 @@ fn write_out<T: Write>(writer: &mut T, bytes: &[u8]) -> usize
 }
 
 impl<T: Write> HeldSink<T> {
-    /// Hands on what is held, and says whether that was all of it. What the writer did not take stays held.
+    /// Passes the held bytes on, and returns whether the writer accepted all of them. The others stay held.
     fn hand_on(&mut self) -> bool
         ensures bytes { Keeps (contents_of T.contents self.old)
             (contents_of T.contents self.new) }
@@ -88,7 +90,7 @@ impl<T: Write> HeldSink<T> {
         self.held.room() == HELD
     }
 
-    /// A write to the writer itself, where nothing is held.
+    /// Writes to the writer directly, when nothing is held.
     fn write_through(&mut self, buf: &[u8]) -> Result<usize, DeviceFault>
         requires { held_in self.old ≡ [] }
         ensures bound { IfOk result (λ n. n ≤ length buf.now) }
@@ -108,7 +110,7 @@ impl<T: Write> HeldSink<T> {
         Ok(n)
     }
 
-    /// Takes bytes for which there may be no room. It is not inlined, as nearly all have room.
+    /// Accepts bytes for which there may be no room. Not inlined, because nearly all bytes have room.
     #[cold]
     #[inline(never)]
     fn write_past(&mut self, buf: &[u8]) -> Result<usize, DeviceFault>
@@ -130,8 +132,8 @@ impl<T: Write> HeldSink<T> {
         self.write_through(buf)
     }
 
-    /// Hands on what is held, flushes the writer, and answers it, and whether it has all. What could not be written is let go of, not
-    /// tried again.
+    /// Passes the held bytes on, flushes the writer, and returns the writer and whether it accepted all bytes. Bytes
+    /// that could not be written are discarded, without a retry.
     pub fn close(self) -> (bool, T)
         ensures whole { result.0 ≡ true
             → Keeps (contents_of T.contents self) (T.contents result.1) }

@@ -1,5 +1,5 @@
-//! Sixteen bytes at once as hexadecimal digits. One by one, or four by four, they take two to three times the instructions, and a
-//! branch at the end of a number that is guessed wrong. A number is written so too.
+//! Reads and writes sixteen bytes at once as hexadecimal digits. Single bytes, or groups of four, take two to three
+//! times as many instructions, and a mispredicted branch at the end of each number.
 
 ghost use Rattle.std.specs.Prelude.{◌≡◌, ◌<◌, ◌≤◌, ◌++◌, ◌∷◌, [], nat_lt, length, map, take};
 ghost use Rattle.std.specs.List.{prefix_len};
@@ -9,10 +9,10 @@ ghost use Rattle.text_lines.specs.Written.{hex};
 
 use std::simd::prelude::*;
 
-/// How many bytes are looked at.
+/// The number of bytes processed at once.
 pub(crate) const LANES: usize = 16;
 
-/// The place of the lowest bit that is set, and sixteen where none is.
+/// Returns the index of the lowest set bit, or sixteen if no bit is set.
 #[inline(always)]
 fn first_set(mask: u64) -> usize
     ensures { result ≡ first_set mask }
@@ -23,7 +23,7 @@ fn first_set(mask: u64) -> usize
     mask.trailing_zeros() as usize
 }
 
-/// How many of the first sixteen bytes come before one that is no hexadecimal digit.
+/// Returns how many of the first sixteen bytes precede the first that is not a hexadecimal digit.
 #[inline(always)]
 pub(crate) fn digits_before(text: &[u8]) -> usize
     requires { 16 ≤ length text.now }
@@ -37,7 +37,8 @@ pub(crate) fn digits_before(text: &[u8]) -> usize
     first_set(others.to_bitmask())
 }
 
-/// The values of the first sixteen bytes as hexadecimal digits, and the lowest four bits of those that are none.
+/// Returns the values of the first sixteen bytes as hexadecimal digits; the value of any other byte is its lowest four
+/// bits.
 #[inline(always)]
 fn nibbles(text: &[u8]) -> u8x16
     requires { 16 ≤ length text.now }
@@ -51,7 +52,7 @@ fn nibbles(text: &[u8]) -> u8x16
     (bytes & u8x16::splat(15)) + nine
 }
 
-/// What the first sixteen bytes are worth by these values, the highest first.
+/// Returns the number that the first sixteen bytes spell with these values, the highest digit first.
 #[inline(always)]
 pub(crate) fn value_of_all(text: &[u8]) -> u64
     requires { 16 ≤ length text.now }
@@ -64,7 +65,8 @@ pub(crate) fn value_of_all(text: &[u8]) -> u64
     u64::from_be_bytes(pairs.to_array())
 }
 
-/// The sixteen digits of a number, the highest first. Its bytes come lowest first, so the digits of the last of them begin.
+/// Returns the sixteen digits of a number, the highest first. Its bytes are in little-endian order, so the digits of
+/// the last byte come first.
 #[inline(always)]
 pub fn word_digits(value: u64) -> u8x16
     ensures { result ≡ hex 16 value }
@@ -79,7 +81,7 @@ pub fn word_digits(value: u64) -> u8x16
     zeros + nibbles
 }
 
-/// The sixteen digits of a number, the highest first, in lower case.
+/// Returns the sixteen digits of a number, the highest first, in lower case.
 #[inline(always)]
 pub fn hex_digits(value: u64) -> [u8; 16]
     ensures { result ≡ hex 16 value }
@@ -87,7 +89,7 @@ pub fn hex_digits(value: u64) -> [u8; 16]
     word_digits(value).to_array()
 }
 
-/// Six bytes, the sixteen digits of a number, and a LF: the first sixteen of these, and then the others.
+/// Returns six bytes, the sixteen digits of a number, and an LF: first sixteen bytes, and then the other seven.
 #[inline(always)]
 pub(crate) fn word_line(before: [u8; 16], value: u64) -> (u8x16, u8x16)
     ensures { take 16 result.0 ++ take 7 result.1 ≡ take 6 before ++ hex 16 value ++ 10 ∷ [] }

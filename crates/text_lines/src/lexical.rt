@@ -11,20 +11,20 @@ use crate::columns::len_before;
 use crate::hexadecimal::{LANES, digits_before, value_of_all};
 use thiserror::Error;
 
-/// A line, or a word of it, fits no form.
+/// A line, or one of its words, has no valid form.
 #[derive(Clone, Copy, Debug, PartialEq, Eq, Error)]
 #[error("not understood")]
 pub struct NotUnderstood;
 
-/// Whether a byte may occur outside a comment and begins none.
+/// Returns whether a byte may occur outside a comment and does not begin one.
 fn is_plain(byte: u8) -> bool
     ensures { result ≡ is_plain byte }
 {
     is_allowed(byte) & (byte != b'#')
 }
 
-/// Whether each byte may occur outside a comment. Each is looked at in any case, here and in the next function, so that many can be
-/// at once.
+/// Returns whether all bytes may occur outside a comment. This function and the next one test every byte, so that many
+/// can be tested at once.
 pub fn are_allowed(text: &[u8]) -> bool
     ensures { result ≡ list_all is_allowed text.now }
 {
@@ -35,7 +35,7 @@ pub fn are_allowed(text: &[u8]) -> bool
     all
 }
 
-/// Whether a text has no comment, and each byte may occur in it.
+/// Returns whether a text has no comment and all its bytes are allowed.
 fn all_plain(text: &[u8]) -> bool
     ensures { result ≡ list_all is_plain text.now }
 {
@@ -46,7 +46,7 @@ fn all_plain(text: &[u8]) -> bool
     all
 }
 
-/// How many blanks a text begins with.
+/// Returns the number of leading blanks.
 pub(crate) fn blanks_len(text: &[u8]) -> usize
     ensures within { result ≤ length text.now }
     ensures len { result ≡ prefix_len is_blank text.now }
@@ -59,7 +59,7 @@ pub(crate) fn blanks_len(text: &[u8]) -> usize
     text.len()
 }
 
-/// How many bytes a text has before its first blank.
+/// Returns the number of bytes before the first blank.
 pub fn word_len(text: &[u8]) -> usize
     ensures within { result ≤ length text.now }
     ensures len { result ≡ position_or_len is_blank text.now }
@@ -72,7 +72,7 @@ pub fn word_len(text: &[u8]) -> usize
     text.len()
 }
 
-/// The value of each byte as a digit in bases up to 16, and 16 for a non-digit. Tests of ranges would be guessed wrong at
+/// The value of each byte as a digit in bases up to 16, and 16 for a non-digit. Range tests would be mispredicted at
 /// every other hexadecimal digit.
 static DIGITS: [u8; 256] = [
     16, 16, 16, 16, 16, 16, 16, 16, 16, 16, 16, 16, 16, 16, 16, 16, 16, 16, 16, 16, 16, 16, 16, 16,
@@ -88,7 +88,7 @@ static DIGITS: [u8; 256] = [
     16, 16, 16, 16, 16, 16, 16, 16, 16, 16, 16, 16, 16, 16,
 ];
 
-/// The value of a digit in bases up to 16, and 16 for a byte that is not one.
+/// Returns the value of a digit in bases up to 16, and 16 for a byte that is not one.
 fn digit(byte: u8) -> u8
     ensures value { result ≡ digit_of byte }
     ensures most { result ≤ 16 }
@@ -96,7 +96,7 @@ fn digit(byte: u8) -> u8
     DIGITS[usize::from(byte)]
 }
 
-/// Whether a text has a seventeenth byte that is a digit of a base up to 16.
+/// Returns whether a text has a seventeenth byte that is a digit.
 #[inline(always)]
 fn goes_on(text: &[u8], base: u8) -> bool
     ensures { result ≡ false → EndsDigits base (drop 16 text.now) }
@@ -104,8 +104,8 @@ fn goes_on(text: &[u8], base: u8) -> bool
     text.len() > LANES && digit(text[LANES]) < base
 }
 
-/// The value of the hexadecimal digits that a text begins with, and how many they are: one to sixteen. None where there are others,
-/// and of another base, and of a shorter text.
+/// Returns the value of the leading hexadecimal digits and their number, one to sixteen. Returns `None` for any other
+/// number of digits, for another base, and for a text of fewer than sixteen bytes.
 #[inline(always)]
 fn leading_sixteen(text: &[u8], base: u8) -> Option<(u64, usize)>
     ensures { IfSome result (λ found.
@@ -122,7 +122,8 @@ fn leading_sixteen(text: &[u8], base: u8) -> Option<(u64, usize)>
     Some((value_of_all(text) >> (64 - 4 * len), len))
 }
 
-/// The value of a decimal digit, and 10 or more for a byte that is not one. The table of all digits takes two instructions more.
+/// Returns the value of a decimal digit, and 10 or more for a byte that is not one. The table of all digits takes two
+/// instructions more.
 #[inline(always)]
 fn decimal(byte: u8) -> u64
     ensures digit { result < 10 → result ≡ digit_of byte }
@@ -131,11 +132,11 @@ fn decimal(byte: u8) -> u64
     u64::from(byte).wrapping_sub(u64::from(b'0'))
 }
 
-/// This many decimal digits have a value below 2^64.
+/// Numbers of this many decimal digits are below 2^64.
 const DECIMALS: usize = 19;
 
-/// The value of the decimal digits that a text begins with, and how many they are: one to eighteen. None where there are others, and
-/// of another base. So few have no value that is too large, and so no product or sum of them is tested.
+/// Returns the value of the leading decimal digits and their number, one to eighteen. Returns `None` for any other
+/// number of digits and for another base. So few digits cannot overflow, so no product or sum is checked.
 #[inline(always)]
 fn leading_decimals(text: &[u8], base: u8) -> Option<(u64, usize)>
     ensures { IfSome result (λ found.
@@ -162,8 +163,8 @@ fn leading_decimals(text: &[u8], base: u8) -> Option<(u64, usize)>
     Some((value, len))
 }
 
-/// The value of the digits that a text begins with, of a base from 2 to 16, and what comes after them. None where there are
-/// none, or their value is 2^64 or more.
+/// Returns the value of the leading digits in a base from 2 to 16, and the rest of the text. Returns `None` if there
+/// are no digits or their value is 2^64 or more.
 #[inline(always)]
 pub fn leading_numeral(text: &[u8], base: u8) -> Option<(u64, &[u8])>
     requires least { 2 ≤ base }
@@ -180,7 +181,7 @@ pub fn leading_numeral(text: &[u8], base: u8) -> Option<(u64, &[u8])>
     leading_digits(text, base)
 }
 
-/// The same of any base and of any number of digits, where each product and sum is tested.
+/// As above, for any base and any number of digits, with each product and sum checked.
 fn leading_digits(text: &[u8], base: u8) -> Option<(u64, &[u8])>
     requires least { 2 ≤ base }
     requires most { base ≤ 16 }
@@ -205,7 +206,8 @@ fn leading_digits(text: &[u8], base: u8) -> Option<(u64, &[u8])>
     Some((value, &text[len..]))
 }
 
-/// The value of the hexadecimal digits that a short text begins with, and how many they are: none where they are none, or too many.
+/// Returns the value of the leading hexadecimal digits of a short text and their number, which is zero if there are no
+/// digits or too many.
 #[cold]
 #[inline(never)]
 fn few_digits(text: &[u8]) -> (u64, usize)
@@ -219,7 +221,7 @@ fn few_digits(text: &[u8]) -> (u64, usize)
     }
 }
 
-/// The same of a text of sixteen bytes or more. It says none of seventeen digits.
+/// As above, for a text of sixteen bytes or more. Returns zero digits if there are seventeen.
 #[inline(always)]
 fn sixteen_digits(text: &[u8]) -> (u64, usize)
     ensures digits { 0 < result.1
@@ -232,8 +234,8 @@ fn sixteen_digits(text: &[u8]) -> (u64, usize)
     }
 }
 
-/// The value of the hexadecimal digits that a text begins with, and what comes after them. None says nothing of the text. It takes
-/// fewer steps than [`leading_numeral`], which has more to say.
+/// Returns the value of the leading hexadecimal digits and the rest of the text. `None` is inconclusive. Takes fewer
+/// steps than [`leading_numeral`], which always decides.
 #[inline(always)]
 pub fn leading_hexadecimal(text: &[u8]) -> Option<(u64, &[u8])>
     ensures { IfSome result (λ front. BeginsNumeral 16 text.now front.0 front.1.now) }
@@ -249,7 +251,7 @@ pub fn leading_hexadecimal(text: &[u8]) -> Option<(u64, &[u8])>
     Some((value, &text[len..]))
 }
 
-/// What comes after `0x`.
+/// Returns the text after a leading `0x`.
 #[inline(always)]
 pub fn behind_mark(text: &[u8]) -> Option<&[u8]>
     ensures { IfSome result (λ digits. text.now ≡ 48 ∷ 120 ∷ digits.now) }
@@ -260,7 +262,7 @@ pub fn behind_mark(text: &[u8]) -> Option<&[u8]>
     }
 }
 
-/// What comes after a space.
+/// Returns the text after a leading space.
 #[inline(always)]
 pub fn behind_space(text: &[u8]) -> Option<&[u8]>
     ensures { IfSome result (λ behind. text.now ≡ 32 ∷ behind.now) }
@@ -271,7 +273,7 @@ pub fn behind_space(text: &[u8]) -> Option<&[u8]>
     }
 }
 
-/// The value of one or more digits of a base from 2 to 16, where it is below 2^64.
+/// Returns the value of one or more digits in a base from 2 to 16, if it is below 2^64.
 pub fn numeral(digits: &[u8], base: u8) -> Option<u64>
     requires least { 2 ≤ base }
     requires most { base ≤ 16 }
@@ -284,7 +286,7 @@ pub fn numeral(digits: &[u8], base: u8) -> Option<u64>
     Some(value)
 }
 
-/// The number that a word spells.
+/// Returns the number that a word spells, if it is one.
 pub fn number(word: &[u8]) -> Option<u64>
     ensures { result ≡ number_of word.now }
 {
@@ -294,15 +296,15 @@ pub fn number(word: &[u8]) -> Option<u64>
     }
 }
 
-/// The words of a line, from the first on.
+/// The words of a line, taken from the front.
 #[derive(Clone, Copy)]
 pub struct Words<'a> {
-    /// What is left of the line, without its comment.
+    /// The rest of the line, without its comment.
     pub rest: &'a [u8],
 }
 
 impl<'a> Words<'a> {
-    /// The words of a line, unless a byte outside its comment is not allowed there.
+    /// Returns the words of a line, unless a byte outside its comment is not allowed.
     pub fn of(line: &'a [u8]) -> Result<Words<'a>, NotUnderstood>
         ensures { option_map (λ words. split_words words.rest.now) (result_ok result)
             ≡ words_of line.now }
@@ -317,7 +319,7 @@ impl<'a> Words<'a> {
         Ok(Words { rest: content })
     }
 
-    /// The next word, where there is one.
+    /// Returns the next word, if there is one.
     pub fn next_word(&mut self) -> Option<&'a [u8]>
         ensures word { MatchOption result (split_words self.old.rest.now ≡ []) (λ word.
             split_words self.old.rest.now ≡ word.now ∷ split_words self.new.rest.now) }

@@ -1,16 +1,16 @@
-//! Input and output: the devices that bytes come from and go to, the lines of an input with their words and numbers, and the one loop
-//! that interprets lines and writes their answers.
+//! Reads an input line by line, splits lines into words and numbers, and writes numbered answers to a device.
 //!
-//! A [`Source`] supplies bytes and a [`Sink`] takes them. Both count their failures; if their bytes are known, a contract says which
-//! were read and written. [`Counted`] makes one of any reader or writer of std. [`write_whole`] writes all of its bytes, or a beginning
-//! of them if the sink failed or took none. A [`LineSink`] writes a number and a short text after it: a [`HeldSink`], which buffers
-//! 32 KiB, does so without a call, and any other [`Sink`] by its `write`.
+//! A [`Source`] supplies bytes and a [`Sink`] accepts them. Both count their failures; if their bytes are known, a
+//! contract states which were read and written. [`Counted`] turns any reader or writer of the standard library into
+//! such a device. [`write_whole`] writes all bytes, or only a prefix if the sink fails or accepts none. A [`LineSink`]
+//! writes a number followed by a short text: a [`HeldSink`], which buffers 32 KiB, does so without a call, and any
+//! other [`Sink`] through its `write`.
 //!
-//! A [`LineReader`] returns the lines of a source through one buffer, and [`next_line`] those of a text in memory. [`Words`] are the
-//! words of a line without its comment, and [`number`] parses one of them. [`interpret_lines`] reads line by line, lets an
-//! [`Interpreter`] act on each, and writes its answer before it reads the next. An answer is its number, counted by a [`Counter`], and
-//! the [`Line`] after it. However the loop ends, its clauses tie what was read to the lines that were interpreted, in their order, and
-//! to the answers that were written. Only [`HeldSink`] allocates.
+//! A [`LineReader`] returns the lines of a source through one buffer, and [`next_line`] those of a text in memory.
+//! [`Words`] are the words of a line without its comment, and [`number`] parses one of them. [`interpret_lines`] reads
+//! line by line, lets an [`Interpreter`] act on each line, and writes its answer before it reads the next one. An
+//! answer is its number, counted by a [`Counter`], followed by a [`Line`]. However the loop ends, its contract relates
+//! the bytes read to the lines interpreted, in their order, and to the answers written. Only [`HeldSink`] allocates.
 //!
 //! ```text
 //! let mut lines = LineReader::<4096>::new();

@@ -1,5 +1,5 @@
-//! The one loop over the lines of an input: a line is read, understood and done, and its answer is written before the
-//! next line is read.
+//! The one loop over the lines of an input: it reads and interprets a line, and writes the answer before it reads the
+//! next line.
 
 ghost use Rattle.std.specs.Prelude.{◌≡◌, ℕ, ◌+◌, ◌-◌, ◌^◌, ◌<◌, ◌≤◌, List, [], Option, None, Some, Err, IfOk, IfSome, length, take, decimal};
 ghost use Rattle.std.specs.Io.KnownBytes.{Keeps};
@@ -16,37 +16,37 @@ use crate::written::Line;
 use crate::{DeviceFault, LineSink, Source};
 use thiserror::Error;
 
-/// How many bytes are read at once where they are there. The answers are handed on before each read, so fewer bytes would
-/// mean more writes too.
+/// The number of bytes read at once if they are available. The answers are passed on before each read, so smaller reads
+/// would also cause more writes.
 const AT_ONCE: usize = 65536;
 
-/// Why a line has no answer that should have one.
+/// The reason why a line that should have an answer has none.
 #[derive(Clone, Copy, Debug, PartialEq, Eq, Error)]
 pub enum LineRefusal {
-    /// It fits no form.
+    /// The line has no valid form.
     #[error("not understood")]
     NotUnderstood,
-    /// Memory was refused for what it does.
+    /// An allocation failed while the line was interpreted.
     #[error("out of memory")]
     Memory,
 }
 
-/// What understands lines and does what they say.
+/// Interprets lines.
 pub trait Interpreter {
-    /// What a line does after n answers, from one state to the next, with the text of its answer where it has one.
+    /// The effect of a line after n answers, from one state to the next, with the text of its answer if it has one.
     ghost does: { Self → ℕ → List ℕ → Option (List ℕ) → Self → Type 0 };
 
-    /// A line that is not understood.
+    /// The line is not understood.
     ghost refuses: { Self → List ℕ → Type 0 };
 
-    /// What a line does for which memory was refused. It has no answer.
+    /// The effect of a line for which an allocation failed. It has no answer.
     ghost starves: { Self → List ℕ → Self → Type 0 };
 
-    /// What is kept from line to line.
+    /// An invariant between lines.
     ghost keeps: { Self → Type 0 };
 
-    /// Does what a line says, which comes without its LF and its CR. Says whether there is an answer, the one after `count` others, and
-    /// writes what comes after its number.
+    /// Interprets a line, which comes without its LF and CR. Returns whether there is an answer, which has `count`
+    /// answers before it, and writes the part of it after its number.
     fn interpret(&mut self, line: &[u8], count: u64, answer: &mut Line) -> Result<bool, LineRefusal>
         requires count { count < 2 ^ 64 - 1 }
         requires empty { answer.old ≡ [] }
@@ -59,9 +59,9 @@ pub trait Interpreter {
             → starves self.old line.now self.new }
         ensures keeps { keeps self.old → keeps self.new };
 
-    /// Does what the line says that some bytes begin with, as [`interpret`](Interpreter::interpret) does, where the line's end is
-    /// found on the way and its last byte is no CR. Says how many bytes the line has before its LF, and what comes of it. None says
-    /// nothing of the line: then nothing is done.
+    /// Interprets the line at the beginning of `ahead`, as [`interpret`](Interpreter::interpret) does, if its end is
+    /// found on the way and its last byte is not a CR. Returns the number of bytes before its LF, and the result.
+    /// `None` is inconclusive: the line was not interpreted.
     fn interpret_ahead(
         &mut self,
         ahead: &[u8],
@@ -84,7 +84,7 @@ pub trait Interpreter {
     }
 }
 
-/// Writes an answer, where there is one, and raises the number of the next. Says how many answers there are with it.
+/// Writes an answer, if there is one, and increments the number of the next. Returns the number of answers so far.
 #[inline(always)]
 fn write_answer<M, W: LineSink<M>>(
     answered: bool,
@@ -110,7 +110,8 @@ fn write_answer<M, W: LineSink<M>>(
     Ok(count + 1)
 }
 
-/// Hands out the next line. Where it has to be read, the sink hands on the answers before: a read may have to wait.
+/// Reads the next line. If it is not in the buffer, the sink first passes on the previous answers, because the read may
+/// block.
 #[inline(always)]
 fn next_line<R: Source, M, W: LineSink<M>>(
     reader: &mut LineReader<AT_ONCE>,
@@ -133,7 +134,7 @@ fn next_line<R: Source, M, W: LineSink<M>>(
     reader.next_line(source)
 }
 
-/// Takes the next line and interprets it. None at the end of the input.
+/// Reads and interprets the next line. Returns `None` at the end of the input.
 #[inline(always)]
 fn interpret_next<I: Interpreter, R: Source, M, W: LineSink<M>>(
     interpreter: &mut I,
@@ -171,9 +172,9 @@ fn interpret_next<I: Interpreter, R: Source, M, W: LineSink<M>>(
     Ok(Some(interpreter.interpret(reader.line(), count, answer)))
 }
 
-/// Interprets the lines of an input one by one, and writes the answer of each before the next is read; before a read that may
-/// have to wait, the sink hands on what it holds. A line that is not understood, a device that fails and a refusal of memory
-/// end it.
+/// Interprets the lines of an input one by one, and writes the answer of each before it reads the next; before a read
+/// that may block, the sink passes on what it holds. The loop ends early on a line that is not understood, a device
+/// failure, or a failed allocation.
 pub fn interpret_lines<I: Interpreter, R: Source, M, W: LineSink<M>>(
     interpreter: &mut I,
     source: &mut R,

@@ -1,4 +1,4 @@
-//! Sinks that the lines of a report are written to, one short text after each number.
+//! Sinks for the lines of a report, which are numbers followed by short texts.
 
 ghost use Rattle.std.specs.Prelude.{◌≡◌, ◌+◌, ◌≤◌, ◌++◌, length, take};
 ghost use Rattle.arrayvec.specs.ArrayVec.{array_vec_len};
@@ -9,31 +9,31 @@ ghost use Rattle.text_lines.specs.Writings.{writing, Prints};
 use crate::streams::{DeviceFault, Sink, write_whole};
 use arrayvec::ArrayVec;
 
-/// The room, in bytes, of the array of a short text.
+/// The size of the array of a short text, in bytes.
 pub const TEXT_ROOM: usize = 128;
 
-/// The room, in bytes, of the array of a number's first digits.
+/// The size of the array of a number's first digits, in bytes.
 pub const DIGITS_ROOM: usize = 20;
 
-/// A short text after a number. The number's last digit is separate, and of both arrays only the first bytes count.
+/// A short text after a number. The number's last digit is separate, and only the first bytes of both arrays count.
 #[derive(Clone, Copy)]
 pub struct Numbered<'a> {
     /// The digits before the last one.
     pub front: &'a [u8; DIGITS_ROOM],
     pub front_len: usize,
     pub last: u8,
-    /// What comes after the number.
+    /// The text after the number.
     pub text: &'a [u8; TEXT_ROOM],
     pub text_len: usize,
 }
 
-/// A sink takes each line at once.
+/// Marks a sink that accepts each line at once.
 pub struct Direct;
 
-/// A sink holds lines back until it is flushed.
+/// Marks a sink that holds lines back until it is flushed.
 pub struct Held;
 
-/// A sink that takes lines, as `M` says: [`Held`] for a sink that may hold them back, [`Direct`] for any sink.
+/// A sink for lines. `M` is [`Held`] for a sink that may hold them back, and [`Direct`] for any sink.
 pub trait LineSink<M>: Sink {
     /// Writes all of a numbered text, as [`write_whole`] does.
     fn write_numbered(&mut self, text: Numbered<'_>) -> Result<(), DeviceFault>
@@ -42,8 +42,8 @@ pub trait LineSink<M>: Sink {
         ensures { Prints (numbered_text text.entry)
             (writing Self.contents Self.failures Self.stalls self.old self.new) result };
 
-    /// Hands on the lines that it holds, if any. What can't be handed on now is still held: a later write reports that, or
-    /// the end.
+    /// Passes on the lines that the sink holds, if any. Lines that cannot be passed on stay held, and a later write or
+    /// the end reports the failure.
     fn flush(&mut self)
         ensures bytes { Keeps (Self.contents self.old) (Self.contents self.new) }
         ensures failures { Self.failures self.new ≡ Self.failures self.old }
@@ -53,7 +53,7 @@ pub trait LineSink<M>: Sink {
 /// The bytes of a numbered text.
 type Joined = ArrayVec<u8, 160>;
 
-/// Appends bytes to those of a text that has room for them.
+/// Appends bytes to a text that has room for them.
 fn append(text: &mut Joined, bytes: &[u8])
     requires { array_vec_len text.old + length bytes.now ≤ 160 }
     ensures items { text.new.items ≡ text.old.items ++ bytes.now }
@@ -64,7 +64,7 @@ fn append(text: &mut Joined, bytes: &[u8])
     };
 }
 
-/// The bytes of a numbered text, one after the other.
+/// Joins the parts of a numbered text.
 fn joined(text: Numbered<'_>) -> Joined
     requires front { text.front_len ≤ 20 }
     requires text { text.text_len ≤ 128 }
@@ -79,7 +79,8 @@ fn joined(text: Numbered<'_>) -> Joined
     bytes
 }
 
-/// Writes all of a numbered text to any sink. It is not inlined, as a sink that holds lines back takes nearly all at once.
+/// Writes all of a numbered text to any sink. Not inlined, because a sink that holds lines back accepts nearly all of
+/// them at once.
 #[inline(never)]
 pub(crate) fn write_apart<W: Sink>(sink: &mut W, text: Numbered<'_>) -> Result<(), DeviceFault>
     requires front { text.front_len ≤ 20 }

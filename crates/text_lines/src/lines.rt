@@ -1,4 +1,4 @@
-//! Lines out of a source, through one buffer of fixed size.
+//! Splits a source into lines, through one buffer of fixed size.
 
 ghost use Rattle.std.specs.Prelude.{◌≡◌, ◌+◌, ◌-◌, ◌^◌, ◌<◌, ◌≤◌, ◌==◌, ℕ, true, false, List, [], Ok, Option, length, take, drop};
 ghost use Rattle.std.specs.List.{position_or_len};
@@ -8,13 +8,13 @@ use crate::columns::len_before;
 use crate::fault::ReadFault;
 use crate::{Buffer, Source};
 
-/// How many bytes may come in all to a reader for which nothing else is said.
+/// The default limit on the bytes of an input.
 const LIMIT: u64 = 1 << 40;
 
-/// How many bytes a line may have before its LF, its CR counted.
+/// The maximal number of bytes of a line before its LF, including a CR.
 pub const LONGEST: usize = 1023;
 
-/// How many bytes a line has without the CR at its end.
+/// Returns the number of bytes of a line without the CR at its end.
 #[inline(always)]
 fn text_len(line: &[u8]) -> usize
     ensures within { result ≤ length line.now }
@@ -26,14 +26,14 @@ fn text_len(line: &[u8]) -> usize
     }
 }
 
-/// A line without the CR at its end.
+/// Returns a line without the CR at its end.
 pub fn without_return(line: &[u8]) -> &[u8]
     ensures { result.now ≡ without_return line.now }
 {
     &line[..text_len(line)]
 }
 
-/// Reads where no further byte may come.
+/// Checks that the source has no more bytes.
 fn read_end<R: Source>(source: &mut R) -> Result<(), ReadFault>
     ensures { EndsInput result (R.remaining source.old)
         (R.remaining source.new) (R.failures source.old) (R.failures source.new) }
@@ -46,8 +46,8 @@ fn read_end<R: Source>(source: &mut R) -> Result<(), ReadFault>
     }
 }
 
-/// Hands out the lines of a source one by one. It has room for `SIZE` bytes that have come, at least a line of [`LONGEST`] and its
-/// LF, and reads that many at once where they are there.
+/// Returns the lines of a source one by one. The buffer has `SIZE` bytes, at least one line of [`LONGEST`] bytes and
+/// its LF, and each read takes as many bytes as fit and are available.
 #[derive(Drop)]
 pub struct LineReader<const SIZE: usize> {
     buffer: Buffer<SIZE>,
@@ -68,7 +68,7 @@ impl<const SIZE: usize> LineReader<SIZE> {
     ghost use Rattle.text_lines.specs.Lines.{without_return, BeginsLine};
     ghost use Rattle.text_lines.specs.LineReaders.{line_of, pending_of, number_of, came_of, most_of, ended_of, NextLine, FailsOnRead, ReadsMore};
 
-    /// A reader to which no byte has come, and to which at most 2^40 may.
+    /// Returns a reader that has read nothing and reads at most 2^40 bytes.
     pub fn new() -> LineReader<SIZE>
         requires { 1024 ≤ SIZE }
         ensures line { line_of result ≡ [] }
@@ -81,7 +81,7 @@ impl<const SIZE: usize> LineReader<SIZE> {
         LineReader::with_limit(LIMIT)
     }
 
-    /// A reader to which no byte has come, and to which at most `limit` may.
+    /// Returns a reader that has read nothing and reads at most `limit` bytes.
     pub fn with_limit(limit: u64) -> LineReader<SIZE>
         requires { 1024 ≤ SIZE }
         ensures line { line_of result ≡ [] }
@@ -102,29 +102,29 @@ impl<const SIZE: usize> LineReader<SIZE> {
         }
     }
 
-    /// The line that was handed out last, without its LF and the CR before it.
+    /// Returns the last line read, without its LF and the CR before it.
     pub fn line(&self) -> &[u8]
         ensures { result.now ≡ line_of self.now }
     {
         &self.buffer.as_slice()[..self.text_len]
     }
 
-    /// The number of that line, from 1.
+    /// Returns the number of that line, from 1.
     pub fn number(&self) -> u64
         ensures { result ≡ number_of self.now }
     {
         self.number
     }
 
-    /// Whether that line was the last, which lacks its LF. The source gave no byte where more were asked
-    /// for, so it is not to be read again.
+    /// Returns whether that line was the last and lacks its LF. The source is then at its end and must not be read
+    /// again.
     pub fn has_ended(&self) -> bool
         ensures { result ≡ ended_of self.now }
     {
         self.ended
     }
 
-    /// Lets go of the line that was handed out.
+    /// Discards the last line read.
     #[inline(always)]
     fn let_go(&mut self)
         ensures taken { self.new.taken ≡ 0 }
@@ -140,7 +140,7 @@ impl<const SIZE: usize> LineReader<SIZE> {
         self.ended = false;
     }
 
-    /// Hands out the first `len` bytes that have come. It ends with byte `end`.
+    /// Returns the first `len` bytes as a line that occupies `end` bytes.
     #[inline(always)]
     fn hand_out(&mut self, len: usize, end: usize)
         requires taken { self.old.taken ≡ 0 }
@@ -160,7 +160,7 @@ impl<const SIZE: usize> LineReader<SIZE> {
         self.number += 1;
     }
 
-    /// Reads some bytes after those that have come, and says whether there were any.
+    /// Reads more bytes, and returns whether there were any.
     #[cold]
     #[inline(never)]
     fn read_more<R: Source>(&mut self, source: &mut R) -> Result<bool, ReadFault>
@@ -187,7 +187,7 @@ impl<const SIZE: usize> LineReader<SIZE> {
         Ok(n > 0)
     }
 
-    /// What has come after the last line, as far as a line and its LF may reach.
+    /// Returns the unread bytes, up to the maximal size of a line and its LF.
     #[inline(always)]
     pub(crate) fn ahead(&self) -> &[u8]
         ensures { result.now ≡ take 1024 (pending_of self.now) }
@@ -196,7 +196,7 @@ impl<const SIZE: usize> LineReader<SIZE> {
         &pending[..pending.len().min(LONGEST + 1)]
     }
 
-    /// Hands out the next line, which has come with its LF and has `len` bytes before it.
+    /// Takes the next line, which is in the buffer with its LF and has `len` bytes before it.
     #[inline(always)]
     pub(crate) fn take_short(&mut self, len: usize)
         requires { BeginsLine len (pending_of self.old) }
@@ -213,8 +213,8 @@ impl<const SIZE: usize> LineReader<SIZE> {
         self.ended = false;
     }
 
-    /// Hands out the next line where it has come with its LF, and says so. Otherwise it lets go of the last one, and nothing
-    /// else changes: only a read can tell what comes next.
+    /// Takes the next line if it is in the buffer with its LF, and returns whether it is. Otherwise only discards the
+    /// last line, because more must be read first.
     #[inline(always)]
     pub fn take_line(&mut self) -> bool
         ensures taken { result ≡ true → (known : Option (List ℕ))
@@ -235,9 +235,9 @@ impl<const SIZE: usize> LineReader<SIZE> {
         true
     }
 
-    /// Hands out the next line: true where there was one, false at the end of the input. Nothing is
-    /// read while a whole line is there. A line of more than 1023 bytes before its LF is too long, and more bytes than the
-    /// limit are too many.
+    /// Reads the next line, and returns whether there is one before the end of the input. Reads nothing while the
+    /// buffer contains a whole line. Fails for a line of more than 1023 bytes before its LF, and for more bytes than
+    /// the limit.
     #[inline(always)]
     pub fn next_line<R: Source>(&mut self, source: &mut R) -> Result<bool, ReadFault>
         ensures line { NextLine result self.old self.new (R.remaining source.old)

@@ -1,12 +1,12 @@
-//! Why a source was not read to its end.
+//! Reasons why a source was not read to its end.
 
-/// Why a source was not read to its end.
+/// The reason why a source was not read to its end.
 #[derive(Clone, Copy, Debug)]
 pub enum SourceFault {
-    /// It has more bytes than are allowed.
+    /// The source has more bytes than are allowed.
     TooLarge,
-    /// It failed.
+    /// The source failed.
     Read,
-    /// Memory for what was made of its bytes was refused.
+    /// An allocation for the result failed.
     Memory,
 }

@@ -1,6 +1,5 @@
-//! Devices that bytes come from and go to. Each reports its bytes, where they are known, and counts
-//! its failures, so that a contract can say what was read and written, and that a fault comes only
-//! where a device failed.
+//! Devices that supply or accept bytes. Each reports its bytes, if they are known, and counts its failures, so that a
+//! contract can state which bytes were read and written, and that an error occurs only if a device failed.
 
 ghost use Rattle.std.specs.Prelude.{◌≡◌, ℕ, ◌≤◌, List, Option, Some, Ok, IfOk, min, length};
 ghost use Rattle.std.specs.Io.KnownBytes.{ReadConsumes, WriteAppends};
@@ -10,39 +9,39 @@ ghost use Rattle.text_lines.specs.Writings.{writing, Prints};
 use std::io::{Read, Write};
 use thiserror::Error;
 
-/// A device did not read or write.
+/// A read or write of a device failed.
 #[derive(Clone, Copy, Debug, PartialEq, Eq, Error)]
 #[error("a device failed")]
 pub struct DeviceFault;
 
-/// A device that bytes come from.
+/// A device that supplies bytes.
 pub trait Source {
-    /// The bytes that are still to come, where they are known.
+    /// The bytes not read yet, if they are known.
     ghost remaining: { Self → Option (List ℕ) };
 
     /// The number of reads that have failed. Each failure adds one, as long as 64 bits hold the number.
     ghost failures: { Self → ℕ };
 
-    /// Reads some bytes to the front of `buf`, and says how many. None into a buffer that is not
-    /// empty is the end of the input.
+    /// Reads some bytes into the front of `buf` and returns their number. Zero bytes in a non-empty buffer mean the end
+    /// of the input.
     fn read(&mut self, buf: &mut [u8]) -> Result<usize, DeviceFault>
         ensures bound { IfOk result (λ n. n ≤ length buf.new) }
         ensures bytes { ReadConsumes (remaining self.old) (remaining self.new) result buf.new }
         ensures failures { CountsFailure result (failures self.old) (failures self.new) };
 }
 
-/// A device that bytes go to.
+/// A device that accepts bytes.
 pub trait Sink {
-    /// The bytes that it has taken, where they are known.
+    /// The bytes that the device has accepted, if they are known.
     ghost contents: { Self → Option (List ℕ) };
 
     /// The number of writes that have failed. Each failure adds one, as long as 64 bits hold the number.
     ghost failures: { Self → ℕ };
 
-    /// How often a write took none of some bytes, in 64 bits.
+    /// The number of writes that accepted none of their bytes, modulo 2^64.
     ghost stalls: { Self → ℕ };
 
-    /// Takes some bytes of the front of `buf`, and says how many.
+    /// Accepts some bytes from the front of `buf` and returns their number.
     fn write(&mut self, buf: &[u8]) -> Result<usize, DeviceFault>
         ensures bound { IfOk result (λ n. n ≤ length buf.now) }
         ensures bytes { WriteAppends (contents self.old) (contents self.new) result buf.now }
@@ -50,7 +49,7 @@ pub trait Sink {
         ensures stalls { CountsStall result buf.now (stalls self.old) (stalls self.new) };
 }
 
-/// Bytes that are all there. No read of them fails.
+/// Bytes in memory. Reading them never fails.
 impl Source for &[u8] {
     ghost remaining = { λ bytes. Some bytes.now };
 
@@ -69,7 +68,8 @@ impl Source for &[u8] {
     }
 }
 
-/// A reader or writer of std, with the number of its failures, and of its writes that took none of some bytes.
+/// A reader or writer of the standard library that counts its failures, and its writes that accepted none of their
+/// bytes.
 #[derive(Drop)]
 pub struct Counted<T> {
     inner: T,
@@ -78,7 +78,7 @@ pub struct Counted<T> {
 }
 
 impl<T> Counted<T> {
-    /// The device over a reader or writer that has not failed yet.
+    /// Wraps a reader or writer that has not failed yet.
     pub fn new(inner: T) -> Counted<T>
         ensures inner { inner_of result ≡ inner }
         ensures failures { failures_of result ≡ 0 }
@@ -91,7 +91,7 @@ impl<T> Counted<T> {
         }
     }
 
-    /// The reader or writer again.
+    /// Returns the reader or writer.
     pub fn into_inner(self) -> T
         ensures { result ≡ inner_of self }
     {
@@ -145,7 +145,7 @@ impl<T: Write> Sink for Counted<T> {
     }
 }
 
-/// Writes all of the bytes, in as many writes as it takes. It is not inlined, as nearly all sinks take them at once.
+/// Writes all of the bytes, with as many writes as it takes. Not inlined, because nearly all sinks accept them at once.
 #[cold]
 #[inline(never)]
 fn write_on<W: Sink>(sink: &mut W, bytes: &[u8]) -> Result<(), DeviceFault>
@@ -162,7 +162,7 @@ fn write_on<W: Sink>(sink: &mut W, bytes: &[u8]) -> Result<(), DeviceFault>
     Ok(())
 }
 
-/// Writes all of the bytes. A write that takes none of some bytes is a fault too.
+/// Writes all of the bytes. A write that accepts none of its bytes is a fault too.
 #[inline(always)]
 pub fn write_whole<W: Sink>(sink: &mut W, bytes: &[u8]) -> Result<(), DeviceFault>
     ensures { Prints bytes.now (writing W.contents W.failures W.stalls sink.old sink.new) result }

@@ -1,4 +1,4 @@
-//! Texts that are put together, in memory or in a buffer of a fixed length.
+//! Texts built in memory or in a buffer of fixed size.
 
 ghost use Rattle.std.specs.Prelude.{◌≡◌, ◌+◌, ◌++◌, ◌≤◌, OnOk, decimal, length};
 ghost use Rattle.arrayvec.specs.ArrayVec.{array_vec_len};
@@ -26,7 +26,7 @@ pub fn push_number(text: &mut Vec<u8>, number: u64) -> Result<(), AllocError>
     Ok(())
 }
 
-/// Digits without the zeros before the first other digit, or before the last.
+/// Returns digits without leading zeros, but keeps the last digit.
 pub fn without_zeros(digits: &[u8]) -> &[u8]
     ensures value { result.now ≡ without_zeros digits.now }
     ensures most { length result.now ≤ length digits.now }
@@ -43,7 +43,7 @@ pub fn without_zeros(digits: &[u8]) -> &[u8]
     }
 }
 
-/// Appends a number as `0x1000`.
+/// Appends a number in the form `0x1000`.
 #[tactic(auto, unfolding(crate::specs::Pieces::address_text))]
 pub fn push_address(text: &mut Vec<u8>, number: u64) -> Result<(), AllocError>
     ensures { OnOk result (text.new.items ≡ text.old.items ++ address_text number) }

@@ -1,4 +1,4 @@
-//! The lines of a text that is all there, as bytes in memory.
+//! The lines of a text in memory.
 
 ghost use Rattle.std.specs.Prelude.{◌≡◌, ◌+◌, ◌-◌, ◌^◌, ◌<◌, length};
 ghost use Rattle.text_lines.specs.LineReaders.{came_of, most_of};
@@ -7,10 +7,11 @@ ghost use Rattle.text_lines.specs.WholeTexts.{NextOf};
 use crate::fault::ReadFault;
 use crate::lines::LineReader;
 
-/// How many bytes of such a text are looked at in one piece: a copy of them is on the stack.
+/// The number of bytes of such a text that are buffered at once; the buffer is on the stack.
 pub const AT_ONCE: usize = 4096;
 
-/// Hands out the next line of a text that is all there, or says that there is none; or which line is too long.
+/// Reads the next line of a text in memory and returns whether there is one. The error is the number of a line that is
+/// too long.
 #[tactic(auto, unfolding(crate::specs::Streams::GrowsByOne))]
 pub fn next_line<const SIZE: usize>(
     lines: &mut LineReader<SIZE>,

@@ -1,4 +1,4 @@
-//! A line that is written, piece by piece, in a buffer of a fixed length.
+//! A line built piece by piece in a buffer of fixed size.
 
 ghost use Rattle.std.specs.Prelude.{◌≡◌, [], ◌∷◌, ◌++◌, ◌+◌, ◌/◌, ◌%◌, ◌<◌, ◌≤◌, decimal, length, take};
 ghost use Rattle.text_lines.specs.Writings.{writing, Prints};
@@ -12,10 +12,10 @@ use itoa::Buffer;
 use std::marker::Model;
 use std::simd::prelude::*;
 
-/// How many bytes a [`Line`] has room for.
+/// The capacity of a [`Line`] in bytes.
 pub const ROOM: usize = TEXT_ROOM;
 
-/// A line that is being written.
+/// A line being built.
 #[derive(Drop)]
 pub struct Line {
     bytes: [u8; ROOM],
@@ -33,7 +33,7 @@ impl Model for Line {
 }
 
 impl Line {
-    /// An empty line.
+    /// Returns an empty line.
     #[inline(always)]
     pub fn new() -> Line
         ensures { result ≡ [] }
@@ -44,7 +44,7 @@ impl Line {
         }
     }
 
-    /// Lets go of what is written.
+    /// Empties the line.
     #[inline(always)]
     pub fn clear(&mut self)
         ensures { self.new ≡ [] }
@@ -52,7 +52,7 @@ impl Line {
         self.len = 0;
     }
 
-    /// How many bytes are written.
+    /// Returns the number of bytes written.
     #[inline(always)]
     pub fn len(&self) -> usize
         ensures value { result ≡ length self.now }
@@ -61,7 +61,7 @@ impl Line {
         self.len
     }
 
-    /// What is written.
+    /// Returns the bytes written.
     #[inline(always)]
     pub fn as_slice(&self) -> &[u8]
         ensures value { result.now ≡ self.now }
@@ -81,8 +81,8 @@ impl Line {
         self.len += 1;
     }
 
-    /// Appends the first bytes of a text. Sixteen are copied in any case: a copy of a length that the compiler knows takes no call, and no
-    /// branch.
+    /// Appends the first bytes of a text. Always copies sixteen bytes, because a copy of constant size takes neither a
+    /// call nor a branch.
     #[inline(always)]
     pub fn push_front(&mut self, text: &[u8; 16], len: usize)
         requires room { length self.old + 16 ≤ 128 }
@@ -94,8 +94,8 @@ impl Line {
         self.len += len;
     }
 
-    /// Appends the first of sixteen lanes. All of them are stored at once, so that a load of them meets one store: what is stored from an
-    /// array may be stored in pieces.
+    /// Appends the first of sixteen lanes. All lanes are stored at once, so that a later load reads from a single
+    /// store; an array might be stored in pieces.
     #[inline(always)]
     pub fn push_lanes(&mut self, lanes: u8x16, len: usize)
         requires room { length self.old + 16 ≤ 128 }
@@ -107,7 +107,7 @@ impl Line {
         self.len += len;
     }
 
-    /// Writes a number, and the line after it.
+    /// Writes a number followed by the line.
     #[inline(always)]
     pub fn write_behind<M, W: LineSink<M>>(
         &self,
@@ -129,7 +129,7 @@ impl Line {
     }
 }
 
-/// The hexadecimal digit of a value below 16, in lower case.
+/// Returns the hexadecimal digit of a value below 16, in lower case.
 pub fn hex_digit(value: u8) -> u8
     requires { value < 16 }
     ensures { result ≡ hex_digit value }
@@ -141,7 +141,7 @@ pub fn hex_digit(value: u8) -> u8
     }
 }
 
-/// Appends the lowest digits of a number, the highest of them first.
+/// Appends the lowest `digits` hexadecimal digits of a number, the highest of them first.
 pub fn push_hex(line: &mut Line, value: u64, digits: u8)
     requires { length line.old + digits ≤ 128 }
     ensures items { line.new ≡ line.old ++ hex digits value }
@@ -164,8 +164,8 @@ pub fn push_hex(line: &mut Line, value: u64, digits: u8)
     push_text(line, &text[..usize::from(digits)]);
 }
 
-/// Appends six bytes, the sixteen digits of a number, and a LF. They are put together in lanes and stored as sixteen bytes and seven: a
-/// load of either meets what one store wrote, and need not wait for it.
+/// Appends six bytes, the sixteen digits of a number, and an LF. They are assembled in lanes and stored as sixteen
+/// bytes and seven, so that a load of either part reads from one store and need not wait.
 #[inline(always)]
 pub fn push_word_line(line: &mut Line, before: [u8; 16], value: u64)
     requires { length line.old + 32 ≤ 128 }
@@ -237,7 +237,8 @@ fn push_short(line: &mut Line, n: u64)
     push_pair(line, n % 100);
 }
 
-/// Appends a number in decimal. The digits of a number below 10^8 are written where they stay; those of a larger one are copied.
+/// Appends a number in decimal. The digits of a number below 10^8 are written in place; those of a larger one are
+/// copied.
 #[inline(always)]
 pub fn push_decimal(line: &mut Line, n: u64)
     requires { length line.old + 20 ≤ 128 }

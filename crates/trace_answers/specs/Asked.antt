@@ -1,4 +1,4 @@
--- What an event asks, by the machine before it.
+-- The requests of events, in terms of the machine before each event.
 use Rattle.std.specs.Prelude.{◌≡◌, ℕ, List}
 use Rattle.pmp_encoding.specs.declared.region.Entry.{Entry}
 use Rattle.pmp_match.specs.declared.access.Access.{Access}
@@ -16,14 +16,14 @@ use Rattle.trace_answers.specs.declared.asked.Asked.{Asked}
 use Rattle.trace_answers.specs.declared.asked.Deed.{Deed}
 use Rattle.trace_answers.specs.declared.asked.Deed.TheVariants as deeds
 
--- the entry that decides by the list that an access on a hart meets, by which it is judged
+-- the entry that decides an access on a hart, by the list that applies to the hart
 abbrev pub by_met : Machine → ℕ → Decides
 by_met machine hart a found = (list : List Entry)
     → MeetsList (state_of machine) (kept_of machine) (bank_on machine) hart list
     → DecidesIn list a found
 
--- what an event asks: an access with what decides it, and the call that the registers name once its
--- words are there
+-- the request of an event: an access with the reason for its outcome; or a call, which the
+-- registers name after the event's words are set
 pub data IsDeed (machine : Machine) (hart : ℕ) : Event → Deed → Type 0 where
   access : (a : Access) (value : ℕ) (reason : Reason) → IsReason (by_met machine hart) a reason
       → IsDeed machine hart (events.Access a value) (deeds.Access a reason)
@@ -32,7 +32,7 @@ pub data IsDeed (machine : Machine) (hart : ℕ) : Event → Deed → Type 0 whe
       (deeds.Call (call_of (calling (state_of machine) hart words.items)))
   interrupt : IsDeed machine hart events.Irq deeds.Interrupt
 
--- what an event asks on a hart, and the world that runs there before it
+-- the request of an event on a hart, and the world that runs there before it
 pub record IsAsked (machine : Machine) (hart : ℕ) (event : Event) (asked : Asked) : Type 0 where
   pub hart_is : asked.hart ≡ hart
   pub world_is : asked.world ≡ (state_of machine).worlds hart

@@ -1,4 +1,4 @@
--- What comes of an input whose answers are compared with those that its comments say.
+-- The comparison of the answers to an input with those that its comments expect.
 use Rattle.std.specs.Prelude.{◌≡◌, ℕ, ◌+◌, true, false, if◌then◌else◌, List, ◌∷◌, ◌++◌, length}
 use Rattle.std.specs.Prelude.{Option, Some, None}
 use Rattle.text_lines.specs.Lines.{without_return}
@@ -6,7 +6,7 @@ use Rattle.text_lines.specs.LineLoop.{Meaning, Does, DoesAll}
 use Rattle.trace_answers.specs.Comments.{agrees, answer_agrees}
 use Rattle.trace_answers.specs.declared.difference.Difference.{Difference}
 
--- the same meaning, for lines alone whose comments agree with their answers
+-- this meaning, restricted to lines whose comments agree with their answers
 abbrev pub agreeing : {S : Type 0} → Meaning S → Meaning S
 agreeing does = λ old n line said new. does old n line said new × (agrees line said ≡ true)
 
@@ -14,8 +14,8 @@ agreeing does = λ old n line said new. does old n line said new × (agrees line
 abbrev pub LineAnswer : Type 0
 LineAnswer = ℕ × List ℕ
 
--- this line and its answer are the first of some lines whose comment says another answer: the lines
--- before it agree with their answers
+-- this line is the first whose comment expects another answer than this one; the lines before it
+-- agree with their answers
 pub record IsFirstDifference {S : Type 0} (does : Meaning S) (old : S) (lines : List (List ℕ))
     (found : LineAnswer) : Type 0 where
   pub before : List (List ℕ)
@@ -31,8 +31,8 @@ pub record IsFirstDifference {S : Type 0} (does : Meaning S) (old : S) (lines : 
   pub differs : answer_agrees (without_return line) answer ≡ false
   pub told : found ≡ (length before + 1, answer)
 
--- all of the input was read, and each of its lines interpreted and answered: each comment agrees
--- with the answer, or the first line whose comment does not is found
+-- the whole input was read, and each of its lines interpreted and answered: all comments agree with
+-- the answers, or the first line whose comment does not is found
 abbrev pub ComparesAll : {S : Type 0} → Meaning S → S → S → Option (List ℕ) → Option (List ℕ)
     → Option (List ℕ) → Option (List ℕ) → Option LineAnswer → Type 0
 ComparesAll does old new before after held holds None =
@@ -41,12 +41,12 @@ ComparesAll does old new before after held holds (Some found) =
     (all : DoesAll does old new before after held holds)
     × IsFirstDifference does old all.lines found
 
--- the first difference after one more line, the one with this number: an earlier one stays
+-- the first difference after one more line, which has this number: an earlier one is kept
 abbrev pub first_with : Option LineAnswer → ℕ → List ℕ → Option (List ℕ) → Option LineAnswer
 first_with (Some found) n line said = Some found
 first_with None n line None = None
 first_with None n line (Some answer) = if answer_agrees line answer then None else Some (n, answer)
 
--- the line that a difference names, and its answer
+-- the number of the line of a difference, and its answer
 abbrev pub found_in : Difference → LineAnswer
 found_in difference = (difference.number, difference.answer.items)

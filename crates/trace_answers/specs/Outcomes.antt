@@ -1,4 +1,4 @@
--- What a call came to, by its reply and the table after it.
+-- The outcome of a call, by its reply and the table after it.
 use Rattle.std.specs.Prelude.{◌≡◌, ◌⊎◌, ℕ, ◌+◌, ◌<◌, ◌≤◌, ℤ, pos, negsuc, Option, Some, None}
 use Rattle.pmp_encoding.specs.Limits.{limit_number}
 use Rattle.pmp_match.specs.Meaning.{Needs}
@@ -16,23 +16,23 @@ use Rattle.trace_answers.specs.declared.outcome.Outcome.{Outcome}
 use Rattle.trace_answers.specs.declared.outcome.Outcome.TheVariants.{Done, Refused, HostNeeds}
 use Rattle.trace_answers.specs.declared.outcome.Outcome.TheVariants.{EnclaveNeeds}
 
--- how far a status is below zero, where it is
+-- the absolute value of a negative status
 abbrev pub below_zero : ℤ → Option ℕ
 below_zero (pos n) = None
 below_zero (negsuc n) = Some (n + 1)
 
--- by a status and a value: done with the value, or refused by a number
+-- the outcome by a status and a value: success with the value, or refused with a number
 abbrev pub told_by : Option ℕ → ℕ → Outcome
 told_by None value = Done value
 told_by (Some number) value = Refused number
 
--- what a call came to, by its reply alone
+-- the outcome of a call by its reply alone
 abbrev pub outcome_in : Reply → Outcome
 outcome_in (replies.Call status value world used) = told_by (below_zero status) value
 outcome_in _ = Done 0
 
--- the view that would need more entries after a creation than there are, and how many: the host's,
--- or where that one fits, that of the new enclave
+-- the view that would need too many entries after a creation, and how many: the host's, or, if that
+-- fits, that of the new enclave
 abbrev pub OutgrownByCreate : EnclaveTable → Create → Outcome → Type 0
 OutgrownByCreate table asked (HostNeeds n) = NeedsWithCreated table asked n
     × (limit_number table.layout.limit < n)
@@ -41,13 +41,13 @@ OutgrownByCreate table asked (EnclaveNeeds n) = Needs (enclave_view (parts_of as
     × ((m : ℕ) × NeedsWithCreated table asked m × (m ≤ limit_number table.layout.limit))
 OutgrownByCreate table asked _ = ⊥
 
--- the same of a destruction, whose one view is the host's
+-- as above after a destruction, where only the host's view matters
 abbrev pub OutgrownByDestroy : EnclaveTable → ℕ → Outcome → Type 0
 OutgrownByDestroy table id (HostNeeds n) = Needs (host_view (with_enclave table id None)) n
     × (limit_number table.layout.limit < n)
 OutgrownByDestroy table id _ = ⊥
 
--- the same of what was asked
+-- as above after a call
 abbrev pub OutgrownBy : EnclaveTable → Deed → Outcome → Type 0
 OutgrownBy table (deeds.Call (Some
     (calls.Create base text_pages data_pages shared_base shared_count entry_offset))) outcome =
@@ -63,9 +63,9 @@ OutgrownBy table (deeds.Call (Some
 OutgrownBy table (deeds.Call (Some (calls.Destroy id))) outcome = OutgrownByDestroy table id outcome
 OutgrownBy table _ outcome = ⊥
 
--- what came of an event: what its reply says; or where that says too few entries, which leaves the
--- table as it is, the view that needs more than there are. Where memory is refused for finding that
--- view, it is what the reply says
+-- the outcome of an event: that of its reply; or, if the reply reports too few entries, which
+-- leaves the table unchanged, the view that needs too many. If an allocation fails while that view
+-- is searched, it is that of the reply
 abbrev pub IsOutcome : EnclaveTable → Deed → Reply → Outcome → Type 0
 IsOutcome table deed reply outcome = (outcome ≡ outcome_in reply)
     ⊎ ((outcome_in reply ≡ Refused 108) × OutgrownBy table deed outcome)

@@ -1,4 +1,4 @@
--- What decides an access.
+-- The reason for the outcome of an access.
 use Rattle.std.specs.Prelude.{◌≡◌, ℕ, ◌+◌, ◌^◌, ◌<◌, ◌≤◌, ◌&&◌, nat_le, Bool, Option, Some, None}
 use Rattle.pmp_encoding.specs.declared.extent.Extent.{Extent}
 use Rattle.pmp_match.specs.declared.access.Access.{Access}
@@ -7,16 +7,16 @@ use Rattle.pmp_match.specs.declared.deciders.Decider.{Decider}
 use Rattle.trace_answers.specs.declared.reasons.Reason.{Reason}
 use Rattle.trace_answers.specs.declared.reasons.Reason.TheVariants as reasons
 
--- which entry decides each access, where one does
+-- the entry that decides each access, if there is one
 abbrev pub Decides : Type 1
 Decides = Access → Option Decider → Type 0
 
--- the extent has each byte of the access
+-- the extent contains each byte of the access
 abbrev pub has_all : Extent → Access → Bool
 has_all x a = nat_le x.base a.address && nat_le (a.address + a.size) x.end
 
--- what decides an access: that it is misaligned comes first, then that it is past the space, and
--- then the entry that decides it
+-- the reason for the outcome of an access: first misalignment, then an address outside the space,
+-- and then the entry that decides it
 pub data IsReason (decides : Decides) (a : Access) : Reason → Type 0 where
   misaligned : ¬ IsAligned a → IsReason decides a reasons.Misaligned
   outside : IsAligned a → 2 ^ 56 ≤ a.address → IsReason decides a reasons.Outside

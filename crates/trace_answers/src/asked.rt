@@ -1,4 +1,4 @@
-//! What an event asks, by the machine before it.
+//! The requests of events, in terms of the machine before each event.
 
 ghost use Rattle.std.specs.Prelude.{◌≡◌, ◌<◌};
 ghost use Rattle.hart_trace.specs.declared.event.Event.{Event};
@@ -11,31 +11,31 @@ use pmp_encoding::Bank;
 use pmp_match::Access;
 use sbi_decode::{Call, World};
 
-/// What an event asks.
+/// The request of an event.
 #[derive(Clone, Copy)]
 pub enum Deed {
-    /// An access, and what decides it.
+    /// An access, and the reason for its outcome.
     Access(Access, Reason),
-    /// A setting of a register, by its number.
+    /// A write of a register, by its number.
     Setting(u8, u64),
-    /// A call: the monitor's that the registers name, where they name one.
+    /// A call, and the function of the monitor that the registers name, if any.
     Call(Option<Call>),
-    /// The timer's interrupt.
+    /// A timer interrupt.
     Interrupt,
 }
 
-/// What an event asks, and of whom.
+/// The request of an event, with its hart and world.
 #[derive(Clone, Copy)]
 pub struct Asked {
-    /// The hart that it happens on.
+    /// The hart of the event.
     pub hart: u8,
-    /// The world that runs there before it.
+    /// The world that runs there before the event.
     pub world: World,
-    /// What it asks.
+    /// The request.
     pub deed: Deed,
 }
 
-/// What decides an access on a hart: the list that it meets, which is the host's where the hart is marked.
+/// Returns the reason for the outcome of an access on a hart. A marked hart uses the host's list.
 fn reason_on(machine: &Machine, hart: u8, access: &Access) -> Reason
     requires { hart < 4 }
     ensures { IsReason (by_met machine.now hart) access.now result }
@@ -48,7 +48,7 @@ fn reason_on(machine: &Machine, hart: u8, access: &Access) -> Reason
     reason_of(machine.bank(hart), access)
 }
 
-/// What an event asks on a hart of a machine.
+/// Returns the request of an event on a hart of a machine.
 fn deed_of(machine: &Machine, hart: u8, event: &Event) -> Deed
     requires { hart < 4 }
     ensures { IsDeed machine.now hart event.now result }
@@ -61,7 +61,7 @@ fn deed_of(machine: &Machine, hart: u8, event: &Event) -> Deed
     }
 }
 
-/// What an event asks on a hart of a machine, before it happens.
+/// Returns the request of an event on a hart of a machine, before the event happens.
 pub fn asked_of(machine: &Machine, hart: u8, event: &Event) -> Asked
     requires { hart < 4 }
     ensures { IsAsked machine.now hart event.now result }

@@ -1,4 +1,4 @@
-//! The answer that the comment of a line says.
+//! The answer that the comment of a line expects.
 
 ghost use Rattle.std.specs.Prelude.{◌≡◌, ◌≤◌, length, bytes_eq};
 ghost use Rattle.std.specs.List.{prefix_len};
@@ -13,14 +13,14 @@ fn is_digit(byte: u8) -> bool
     byte >= b'0' && byte <= b'9'
 }
 
-/// Whether a byte may occur in a word of an answer.
+/// Returns whether a byte may occur in a word of an answer.
 pub(crate) fn is_spoken(byte: u8) -> bool
     ensures { result ≡ is_spoken byte }
 {
     is_digit(byte) || (byte >= b'a' && byte <= b'z') || byte == b'-'
 }
 
-/// How many such bytes a word begins with.
+/// Returns the number of leading bytes of a word that may occur in an answer.
 fn spoken_len(word: &[u8]) -> usize
     ensures within { result ≤ length word.now }
     ensures len { result ≡ prefix_len is_spoken word.now }
@@ -33,21 +33,21 @@ fn spoken_len(word: &[u8]) -> usize
     word.len()
 }
 
-/// A word up to its first other byte.
+/// Returns the prefix of a word that may occur in an answer.
 fn spoken(word: &[u8]) -> &[u8]
     ensures { result.now ≡ spoken word.now }
 {
     &word[..spoken_len(word)]
 }
 
-/// Whether two words are the same up to their first other byte.
+/// Returns whether two words have the same such prefix.
 fn are_alike(word: &[u8], other: &[u8]) -> bool
     ensures { result ≡ bytes_eq (spoken word.now) (spoken other.now) }
 {
     spoken(word) == spoken(other)
 }
 
-/// Whether a word begins with a digit.
+/// Returns whether a word begins with a digit.
 pub(crate) fn is_numbered(word: &[u8]) -> bool
     ensures { result ≡ is_numbered word.now }
 {
@@ -57,14 +57,14 @@ pub(crate) fn is_numbered(word: &[u8]) -> bool
     }
 }
 
-/// Whether a word is the first of an answer, after its number.
+/// Returns whether a word is the first of an answer, after its number.
 fn is_kind(word: &[u8]) -> bool
     ensures { result ≡ is_kind (spoken word.now) }
 {
     matches!(spoken(word), b"ok" | b"fault" | b"call" | b"irq")
 }
 
-/// Whether words are those of an answer.
+/// Returns whether words have the form of an answer.
 pub(crate) fn says_answer(mut words: Words<'_>) -> bool
     ensures { result ≡ says_answer (spoken_words words.entry.rest.now) }
 {
@@ -77,7 +77,7 @@ pub(crate) fn says_answer(mut words: Words<'_>) -> bool
     is_kind(first) || (is_numbered(spoken(first)) && is_kind(second))
 }
 
-/// Whether words begin with those of an answer.
+/// Returns whether words begin with those of an answer.
 fn begins(mut said: Words<'_>, mut answer: Words<'_>) -> bool
     ensures { result ≡ begins (spoken_words said.entry.rest.now)
         (spoken_words answer.entry.rest.now) }
@@ -91,7 +91,7 @@ fn begins(mut said: Words<'_>, mut answer: Words<'_>) -> bool
     are_alike(other, word) && begins(said, answer)
 }
 
-/// Whether words begin with those of an answer, with its number or without.
+/// Returns whether words begin with those of an answer, with or without its number.
 fn says_it(said: Words<'_>, answer: Words<'_>) -> bool
     ensures { result ≡ says_it (spoken_words said.entry.rest.now)
         (spoken_words answer.entry.rest.now) }
@@ -101,14 +101,14 @@ fn says_it(said: Words<'_>, answer: Words<'_>) -> bool
     begins(said, answer) || begins(said, rest)
 }
 
-/// The comment of a line, from its `#` on.
+/// Returns the comment of a line, from its `#` on.
 pub(crate) fn comment_of(line: &[u8]) -> &[u8]
     ensures { result.now ≡ comment_of line.now }
 {
     &line[len_before(b'#', line)..]
 }
 
-/// What comes after the `#`.
+/// Returns the text after the `#`.
 pub(crate) fn remark_of(line: &[u8]) -> &[u8]
     ensures { result.now ≡ remark_of line.now }
 {
@@ -118,7 +118,7 @@ pub(crate) fn remark_of(line: &[u8]) -> &[u8]
     }
 }
 
-/// Whether the comment of a line says no answer, or this one.
+/// Returns whether the comment of a line expects this answer or none.
 pub(crate) fn agrees(line: &[u8], answer: &[u8]) -> bool
     ensures { result ≡ answer_agrees line.now answer.now }
 {

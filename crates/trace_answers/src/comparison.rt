@@ -1,4 +1,4 @@
-//! The lines of an input, each with its answer compared with the one that its comment says.
+//! Interprets the lines of an input and compares each answer with the one that its comment expects.
 
 ghost use Rattle.std.specs.Prelude.{◌≡◌, ℕ, ◌+◌, ◌-◌, ◌^◌, ◌<◌, Some, Err, IfOk, None, min, option_map};
 ghost use Rattle.text_lines.specs.LineLoop.{text_of, CountsReads, CountsWrites, StopsAt, StopsForMemory, StopsReading, StopsTooLong, StopsWriting};
@@ -9,8 +9,8 @@ use crate::difference::{Difference, numbered};
 use crate::mistaken::{CommentNote, Mistaken};
 use text_lines::{Interpreter, Line, LineRefusal, LineSink, RunFault, Source, interpret_lines};
 
-/// What interprets the lines, how many they were, the first difference, and the lines whose comments look like an answer and are
-/// none.
+/// The interpreter of the lines, the number of lines, the first difference, and the lines whose comments look like an
+/// answer but are not one.
 #[derive(Drop)]
 struct Comparing<I> {
     lines: I,
@@ -19,7 +19,8 @@ struct Comparing<I> {
     mistaken: Mistaken,
 }
 
-/// Notes the first difference, with one more line: what follows the number of its answer, after `count` others.
+/// Records a difference in one more line if it is the first; `behind` follows the number of the answer, which has
+/// `count` answers before it.
 fn note(
     first: &mut Option<Difference>,
     number: u64,
@@ -77,7 +78,7 @@ impl<I: Interpreter> Interpreter for Comparing<I> {
 impl<I> Comparing<I> {
     ghost use Rattle.std.specs.Prelude.{◌≡◌};
 
-    /// What came of them, where they ended so.
+    /// Returns the result for lines that ended in this way.
     fn ended(self, end: Result<(), RunFault>) -> Compared<I>
         ensures lines { result.lines ≡ self.lines }
         ensures first { result.first ≡ self.first }
@@ -94,21 +95,21 @@ impl<I> Comparing<I> {
     }
 }
 
-/// What came of lines whose answers were compared.
+/// The result of comparing answers with comments.
 #[derive(Drop)]
 pub struct Compared<I> {
-    /// What interpreted them.
+    /// The interpreter of the lines.
     pub lines: I,
-    /// What is said of the first that differs.
+    /// The first difference.
     pub first: Option<Difference>,
-    /// What is said of the comments that look like answers and are none.
+    /// The note about comments that look like answers but are not.
     pub note: CommentNote,
-    /// How they ended.
+    /// The end of the lines, or the fault that stopped them.
     pub end: Result<(), RunFault>,
 }
 
-/// Interprets the lines of an input as `interpret_lines` does, and compares the answer of each with the one that its comment says.
-/// Which comments look like an answer and are none is said of all lines together.
+/// Interprets the lines of an input as `interpret_lines` does, and compares each answer with the one that its comment
+/// expects. One note covers all comments that look like an answer but are not one.
 pub fn compare_lines<I: Interpreter, R: Source, M, W: LineSink<M>>(
     lines: I,
     source: &mut R,

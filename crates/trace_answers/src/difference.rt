@@ -7,10 +7,10 @@ use arrayvec::ArrayVec;
 use itoa::Buffer;
 use text_lines::{Line, allowed_len, append, unended};
 
-/// The most bytes of an answer.
+/// The maximal size of an answer in bytes.
 const ROOM: usize = 160;
 
-/// The most bytes of a comment that are shown.
+/// The number of bytes of a comment that are shown.
 const SHOWN: usize = 128;
 
 /// The text of a message about a difference.
@@ -26,7 +26,7 @@ pub struct Difference {
     comment: ArrayVec<u8, SHOWN>,
 }
 
-/// Puts an answer together from its number and what follows it.
+/// Joins the number of an answer and the rest of it.
 pub(crate) fn numbered(number: u64, rest: &Line) -> ArrayVec<u8, ROOM>
     ensures { result.items ≡ decimal number ++ rest.now }
 {

@@ -1,4 +1,4 @@
-//! The comment on an event: the hart and the world in which it happened, what it asked, and what came of it.
+//! The comment on an event: its hart and world, its request, and its outcome.
 
 use crate::asked::{Asked, Deed};
 use crate::explained::Comment;
@@ -11,7 +11,7 @@ use sbi_decode::{Call, World};
 use std::fmt;
 use std::fmt::Write;
 
-/// A world, as `host` or `enclave 1`.
+/// A world, such as `host` or `enclave 1`.
 #[derive(Drop)]
 struct WorldName(World);
 
@@ -24,7 +24,7 @@ impl fmt::Display for WorldName {
     }
 }
 
-/// The keyword of a kind of access.
+/// Returns the keyword of a kind of access.
 fn keyword(kind: Kind) -> &'static str {
     match kind {
         Kind::Fetch => "fetch",
@@ -33,7 +33,7 @@ fn keyword(kind: Kind) -> &'static str {
     }
 }
 
-/// The kind and the address of an access, as `load 0x80200000`.
+/// The kind and the address of an access, such as `load 0x80200000`.
 #[derive(Drop)]
 struct AccessName<'a>(&'a Access);
 
@@ -45,7 +45,7 @@ impl fmt::Display for AccessName<'_> {
     }
 }
 
-/// A call and the arguments that tell calls apart.
+/// A call and the arguments that distinguish it.
 #[derive(Drop)]
 struct CallName<'a>(&'a Call);
 
@@ -72,7 +72,7 @@ impl fmt::Display for CallName<'_> {
     }
 }
 
-/// Writes a call and its outcome: the id of what it created, or why it was refused.
+/// Writes a call and its outcome: the id of the new enclave, or the reason for a refusal.
 fn write_call(comment: &mut Comment, call: &Call, outcome: Outcome) -> fmt::Result {
     let name = CallName(call);
     write!(comment, "{name}")?;
@@ -92,7 +92,7 @@ fn write_call(comment: &mut Comment, call: &Call, outcome: Outcome) -> fmt::Resu
     }
 }
 
-/// Writes what an event asked in a world, and what came of it.
+/// Writes the request of an event in a world, and its outcome.
 fn write_deed(comment: &mut Comment, asked: &Asked, outcome: Outcome) -> fmt::Result {
     match &asked.deed {
         Deed::Access(access, reason) => {

@@ -6,16 +6,16 @@ ghost use Rattle.trace_answers.specs.Explained.{explained};
 use arrayvec::{ArrayString, ArrayVec};
 use text_lines::{Line, append, push_decimal, push_text, unended};
 
-/// The words of a comment. A part that does not fit is left out.
+/// The text of a comment. Parts that do not fit are omitted.
 pub type Comment = ArrayString<256>;
 
-/// The most bytes of a line before its LF.
+/// The maximal number of bytes of a line before its LF.
 const ROOM: usize = 127;
 
 /// An answer and its comment at full length.
 type Whole = ArrayVec<u8, 512>;
 
-/// The beginning of a text, at most `room` bytes.
+/// Returns at most `room` bytes of a text.
 fn fitting(text: &[u8], room: usize) -> &[u8]
     ensures value { result.now ≡ take room text.now }
     ensures most { length result.now ≤ room }
@@ -47,8 +47,8 @@ fn count_digits(number: u64) -> usize
     digits.len()
 }
 
-/// Appends a comment to an answer. The line holds what follows the answer's number; with the number it has at most 128 bytes,
-/// and the end of a comment that does not fit is left out.
+/// Appends a comment to an answer. The line holds the answer without its number; with the number it has at most 128
+/// bytes, and a comment that does not fit is cut off.
 pub fn explain(answer: &mut Line, number: u64, comment: &Comment)
     ensures { decimal number ++ answer.new
         ≡ explained (decimal number ++ answer.old) comment.now.bytes }

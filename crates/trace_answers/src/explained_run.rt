@@ -1,4 +1,4 @@
-//! A trace that happens to a machine, line by line, each answer followed by what happened.
+//! Runs a trace on a machine line by line, and appends to each answer what happened.
 
 ghost use Rattle.std.specs.Prelude.{◌≡◌, ℕ, Err, IfOk};
 ghost use Rattle.text_lines.specs.LineLoop.{DoesAll, StopsAt, StopsTooLong, StopsReading, StopsWriting, StopsForMemory, CountsReads, CountsWrites};
@@ -58,19 +58,20 @@ impl Interpreter for ExplainingMachine {
     }
 }
 
-/// What came of a run whose answers were explained.
+/// The result of a run whose answers were explained.
 #[derive(Drop)]
 pub struct Ran {
-    /// The machine after it.
+    /// The machine after the run.
     pub machine: Machine,
-    /// What happened, counted.
+    /// The counts of what happened.
     pub tally: Tally,
-    /// How it ended.
+    /// The end of the run, or the fault that stopped it.
     pub end: Result<(), RunFault>,
 }
 
-/// Runs a trace on a machine as `hart_sim::run` does, appends to each answer a comment on what happened, and counts it.
-/// To name the number of entries that a refused view needs takes memory; if that is refused, the comment goes without the number.
+/// Runs a trace on a machine as `hart_sim::run` does, appends to each answer a comment on what happened, and counts
+/// events. Finding the number of entries that a refused view needs takes memory; if an allocation fails, the comment
+/// omits the number.
 pub fn explain_run<R: Source, M, W: LineSink<M>>(
     machine: Machine,
     source: &mut R,

@@ -1,4 +1,4 @@
-//! The accesses of a trace, judged line by line, each answer followed by what decided it.
+//! Judges the accesses of a trace line by line, and appends to each answer what decided it.
 
 ghost use Rattle.std.specs.Prelude.{◌≡◌, ℕ, ◌-◌, ◌^◌, Err, IfOk, Some, [], IfSome};
 ghost use Rattle.std.specs.Result.{result_ok};
@@ -13,7 +13,7 @@ use pmp_match::{Access, Deciders};
 use std::fmt::Write;
 use text_lines::{Interpreter, Line, LineRefusal, LineSink, RunFault, Source, interpret_lines};
 
-/// What answers the access of each line, and says what decided it.
+/// Answers the access of each line and explains what decided it.
 #[derive(Drop)]
 struct ExplainingJudge<'a, J, D> {
     by: &'a J,
@@ -72,7 +72,7 @@ impl<J: AccessJudge, D: Deciders> Interpreter for ExplainingJudge<'_, J, D> {
     }
 }
 
-/// Judges the accesses of a trace as `judge_lines` does, and says after each answer which entry decided it.
+/// Judges the accesses of a trace as `judge_lines` does, and appends to each answer the entry that decided it.
 pub fn explain_judged<J: AccessJudge, D: Deciders, R: Source, M, W: LineSink<M>>(
     by: &J,
     deciders: &D,

@@ -1,4 +1,4 @@
-//! The accesses of a trace, judged line by line and compared with the answers that its comments say.
+//! Judges the accesses of a trace line by line and compares the answers with those that its comments expect.
 
 ghost use Rattle.std.specs.Prelude.{◌≡◌, ℕ, ◌-◌, ◌^◌, Err, IfOk, option_map};
 ghost use Rattle.text_lines.specs.LineLoop.{CountsReads, CountsWrites, StopsAt, StopsReading, StopsTooLong, StopsWriting};
@@ -9,7 +9,8 @@ use crate::comparison::{Compared, compare_lines};
 use hart_trace::{AccessJudge, LineJudge};
 use text_lines::{LineSink, RunFault, Source};
 
-/// Judges the accesses of a trace as `judge_lines` does, and compares each answer with the one that the comment of its line says.
+/// Judges the accesses of a trace as `judge_lines` does, and compares each answer with the one that the comment of its
+/// line expects.
 pub fn compare_judged<J: AccessJudge, R: Source, M, W: LineSink<M>>(
     by: &J,
     source: &mut R,

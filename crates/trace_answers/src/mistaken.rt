@@ -1,20 +1,20 @@
 //! Comments that look like an answer but are not one.
 //!
-//! Such a comment is probably a typing error, so `--expect` points it out. Which ones look like an answer is a guess: it decides
-//! no verdict.
+//! Such a comment is probably a typing error, so `--expect` reports it. Which comments look like an answer is a guess
+//! and affects no verdict.
 
 use crate::comments::{is_numbered, is_spoken, remark_of, says_answer};
 use arrayvec::{ArrayString, ArrayVec};
 use std::fmt::Write;
 use text_lines::{Words, is_name, len_before};
 
-/// The number of lines that are named.
+/// The number of lines that are listed.
 const NAMED: usize = 8;
 
-/// A message that names the lines with such comments. It is empty if there are none.
+/// A message that lists the lines with such comments. It is empty if there are none.
 pub type CommentNote = ArrayString<384>;
 
-/// The lines with such comments: the numbers of the first ones, and the number of all.
+/// The lines with such comments: the first few numbers, and the total.
 #[derive(Drop)]
 pub(crate) struct Mistaken {
     numbers: ArrayVec<u64, NAMED>,
@@ -22,7 +22,7 @@ pub(crate) struct Mistaken {
 }
 
 impl Mistaken {
-    /// No lines.
+    /// Returns an empty list of lines.
     pub fn none() -> Mistaken {
         Mistaken {
             numbers: ArrayVec::new(),
@@ -30,7 +30,7 @@ impl Mistaken {
         }
     }
 
-    /// Looks at one more line, the one with this number.
+    /// Checks one more line, which has this number.
     pub fn look_at(&mut self, number: u64, line: &[u8]) {
         if is_mistaken(line) {
             let _ = self.numbers.try_push(number);
@@ -38,7 +38,7 @@ impl Mistaken {
         }
     }
 
-    /// Names the lines.
+    /// Returns the message.
     pub fn note(&self) -> CommentNote {
         let mut note = CommentNote::new();
         let [first, rest @ ..] = self.numbers.as_slice() else {

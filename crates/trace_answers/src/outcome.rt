@@ -1,4 +1,4 @@
-//! What a call came to, by its reply and the table after it.
+//! The outcome of a call, by its reply and the table after it.
 
 ghost use Rattle.std.specs.Prelude.{◌≡◌, IfSome};
 ghost use Rattle.measurement.specs.declared.request.Create.{Create};
@@ -10,20 +10,20 @@ use hart_sim::Reply;
 use measurement::Create;
 use sbi_decode::{Call, World};
 
-/// What a call came to.
+/// The outcome of a call.
 #[derive(Clone, Copy)]
 pub enum Outcome {
-    /// It was done, with this value.
+    /// The call succeeded with this value.
     Done(u64),
-    /// It was refused, with an error so far below zero.
+    /// The call was refused with minus this number.
     Refused(u64),
-    /// It was refused for too few entries: the host's view would need this many after it.
+    /// The call was refused because the resulting view of the host would need this many entries.
     HostNeeds(u32),
-    /// It was refused for too few entries: the view of the enclave that it makes would need this many.
+    /// The call was refused because the view of the new enclave would need this many entries.
     EnclaveNeeds(u32),
 }
 
-/// How far below zero a status is.
+/// Returns the absolute value of a negative status.
 pub(crate) fn below_zero(status: i64) -> Option<u64>
     ensures { result ≡ below_zero status }
 {
@@ -33,7 +33,7 @@ pub(crate) fn below_zero(status: i64) -> Option<u64>
     None
 }
 
-/// What a call came to, by its reply alone.
+/// Returns the outcome of a call by its reply alone.
 fn outcome_in(reply: &Reply) -> Outcome
     ensures { result ≡ outcome_in reply.now }
 {
@@ -46,7 +46,7 @@ fn outcome_in(reply: &Reply) -> Outcome
     }
 }
 
-/// The view that would need more entries after a creation than there are, where memory suffices to find it.
+/// Returns the view that would need too many entries after a creation, unless an allocation fails.
 fn outgrown_by_create(table: &Table, world: World, asked: Create) -> Option<Outcome>
     ensures { IfSome result (OutgrownByCreate table.now.table asked) }
 {
@@ -63,7 +63,7 @@ fn outgrown_by_create(table: &Table, world: World, asked: Create) -> Option<Outc
     None
 }
 
-/// The same of a destruction.
+/// Returns the view that would need too many entries after a destruction, unless an allocation fails.
 fn outgrown_by_destroy(table: &Table, world: World, id: u64) -> Option<Outcome>
     ensures { IfSome result (OutgrownByDestroy table.now.table id) }
 {
@@ -76,7 +76,7 @@ fn outgrown_by_destroy(table: &Table, world: World, id: u64) -> Option<Outcome>
     None
 }
 
-/// The view for which a call is refused for too few entries, where memory suffices to find it.
+/// Returns the view for which a call is refused for lack of entries, unless an allocation fails.
 fn outgrown_by(table: &Table, world: World, deed: &Deed) -> Option<Outcome>
     ensures { IfSome result (OutgrownBy table.now.table deed.now) }
 {
@@ -109,8 +109,8 @@ fn outgrown_by(table: &Table, world: World, deed: &Deed) -> Option<Outcome>
     }
 }
 
-/// What came of an event that asked this, by its reply and the table after it. It takes memory only where a call is refused
-/// for too few entries.
+/// Returns the outcome of an event, by its request, its reply and the table after it. Allocates memory only if a call
+/// is refused for lack of entries.
 pub(crate) fn outcome_of(table: &Table, asked: &Asked, reply: &Reply) -> Outcome
     ensures { IsOutcome table.now.table asked.now.deed reply.now result }
 {

@@ -1,4 +1,4 @@
-//! What decides an access.
+//! The reason for the outcome of an access.
 
 ghost use Rattle.std.specs.Prelude.{◌≡◌, ◌^◌, ◌<◌};
 ghost use Rattle.trace_answers.specs.Reasons.{IsReason, has_all};
@@ -8,7 +8,7 @@ use pmp_encoding::{Extent, SPACE_SIZE};
 use pmp_match::{Access, Deciders, is_aligned};
 use std::fmt;
 
-/// What decides an access.
+/// The reason for the outcome of an access.
 #[derive(Clone, Copy)]
 pub enum Reason {
     /// Its address is not a multiple of its size; the entries are not consulted.
@@ -33,7 +33,7 @@ fn has_all(extent: Extent, access: &Access) -> bool
     extent.base <= access.addr() && access.addr() + u64::from(access.size()) <= extent.end
 }
 
-/// Finds what decides an access.
+/// Finds the reason for the outcome of an access.
 pub fn reason_of<D: Deciders>(deciders: &D, access: &Access) -> Reason
     ensures { IsReason (D.decides deciders.now) access.now result }
 {

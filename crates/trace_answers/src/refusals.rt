@@ -1,8 +1,8 @@
-//! Why a call was refused, in words.
+//! Reasons for refused calls, as text.
 
 use sbi_decode::Call;
 
-/// Words for a caller that may not make the call.
+/// Describes a caller that may not make the call.
 fn caller_text(call: &Call) -> &'static str {
     match call {
         Call::Stop | Call::Exit { .. } => "not an enclave",
@@ -10,7 +10,7 @@ fn caller_text(call: &Call) -> &'static str {
     }
 }
 
-/// Words for an enclave whose state does not allow the call.
+/// Describes an enclave whose state does not allow the call.
 fn state_text(call: &Call) -> &'static str {
     match call {
         Call::Destroy { .. } => "it runs",
@@ -20,7 +20,7 @@ fn state_text(call: &Call) -> &'static str {
     }
 }
 
-/// Words for the refusal of a call. The number is the error's distance below zero.
+/// Describes the refusal of a call with minus this number.
 pub(crate) fn refusal_text(call: &Call, number: u64) -> &'static str {
     match number {
         101 => caller_text(call),

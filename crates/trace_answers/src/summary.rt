@@ -1,4 +1,4 @@
-//! The summary of a run, for people: lines that begin with `# `.
+//! The summary of a run, printed as lines that begin with `# `.
 
 ghost use Rattle.std.specs.Prelude.{ℕ, List};
 ghost use Rattle.text_lines.specs.Writings.{Prints, writing};
@@ -14,10 +14,10 @@ use text_lines::{DeviceFault, Sink, write_whole};
 /// The text of a summary.
 type Text = ArrayString<4096>;
 
-/// The most enclaves that are live, and their largest id.
+/// The maximal number of live enclaves, which is also their largest id.
 const ENCLAVES: u64 = 64;
 
-/// The name of a subject.
+/// Returns the name of a subject.
 fn title(subject: Subject) -> &'static str {
     match subject {
         Subject::Events => "events",
@@ -27,7 +27,7 @@ fn title(subject: Subject) -> &'static str {
     }
 }
 
-/// The name of a kind of event.
+/// Returns the name of a kind of event.
 fn event_name(kind: u64) -> &'static str {
     match kind {
         0 => "accesses",
@@ -37,7 +37,7 @@ fn event_name(kind: u64) -> &'static str {
     }
 }
 
-/// The name of a function of the monitor.
+/// Returns the name of a function of the monitor.
 fn function_name(function: u64) -> &'static str {
     match function {
         0 => "create",
@@ -69,7 +69,7 @@ fn write_count(text: &mut Text, subject: Subject, count: &Count) -> fmt::Result 
     }
 }
 
-/// Writes the line of a subject, if there is anything to count: the total, and in brackets the kinds.
+/// Writes the line of a subject, if anything was counted: the total, and the kinds in brackets.
 fn write_group(text: &mut Text, group: &Group) -> fmt::Result {
     if group.total == 0 {
         return Ok(());
@@ -130,7 +130,7 @@ fn write_summary(text: &mut Text, tally: &Tally, machine: &Machine) -> fmt::Resu
     )
 }
 
-/// Prints the summary of a run: what the tally counted, and the live enclaves and marked harts of the machine after it.
+/// Prints the summary of a run: the counts of the tally, and the live enclaves and marked harts of the machine after it.
 pub fn print_summary<W: Sink>(
     tally: &Tally,
     machine: &Machine,

@@ -1,4 +1,4 @@
-//! The tally of a run: what happened, counted, for the summary that people read.
+//! The counts of what happened in a run, for its summary.
 
 use crate::asked::{Asked, Deed};
 use crate::outcome::below_zero;
@@ -6,10 +6,10 @@ use arrayvec::ArrayVec;
 use hart_sim::Reply;
 use sbi_decode::Call;
 
-/// What is counted together.
+/// A subject of counting.
 #[derive(Clone, Copy)]
 pub(crate) enum Subject {
-    /// Events, by what they are.
+    /// Events, by kind.
     Events,
     /// Faults, by cause.
     Faults,
@@ -19,14 +19,14 @@ pub(crate) enum Subject {
     Refusals,
 }
 
-/// The number of things of one kind.
+/// The count of one kind.
 #[derive(Clone, Copy, Default)]
 pub(crate) struct Count {
     pub(crate) kind: u64,
     pub(crate) number: u64,
 }
 
-/// The number of things under a subject, in all and by kind.
+/// The counts of a subject, in total and by kind.
 #[derive(Drop)]
 pub(crate) struct Group {
     pub(crate) subject: Subject,
@@ -34,7 +34,7 @@ pub(crate) struct Group {
     pub(crate) counts: ArrayVec<Count, 16>,
 }
 
-/// The kinds that are counted under a subject.
+/// Returns the kinds that are counted for a subject.
 fn kinds_of(subject: Subject) -> &'static [u64] {
     match subject {
         Subject::Events => &[0, 1, 2, 3],
@@ -47,7 +47,7 @@ fn kinds_of(subject: Subject) -> &'static [u64] {
 }
 
 impl Group {
-    /// Nothing of this subject.
+    /// Returns a group in which nothing was counted.
     fn new(subject: Subject) -> Group {
         let mut counts = ArrayVec::new();
         for kind in kinds_of(subject) {
@@ -63,7 +63,7 @@ impl Group {
         }
     }
 
-    /// Counts one more of a kind, if there is one.
+    /// Counts one more of this kind, if any.
     fn count(&mut self, kind: Option<u64>) {
         let Some(kind) = kind else {
             return;
@@ -77,7 +77,7 @@ impl Group {
     }
 }
 
-/// What happened in a run, counted.
+/// The counts of what happened in a run.
 #[derive(Drop)]
 pub struct Tally {
     pub(crate) events: Group,
@@ -88,7 +88,7 @@ pub struct Tally {
     pub(crate) most: u64,
 }
 
-/// The kind of an event.
+/// Returns the kind of an event.
 fn event_kind(deed: &Deed) -> u64 {
     match deed {
         Deed::Access(_, _) => 0,
@@ -98,7 +98,7 @@ fn event_kind(deed: &Deed) -> u64 {
     }
 }
 
-/// The kind of a call: its function's number, or 7 if it names none.
+/// Returns the kind of a call: its function's number, or 7 if it names none.
 fn call_kind(deed: &Deed) -> Option<u64> {
     let Deed::Call(call) = deed else {
         return None;
@@ -116,7 +116,7 @@ fn call_kind(deed: &Deed) -> Option<u64> {
 }
 
 impl Tally {
-    /// The tally before anything happened.
+    /// Returns an empty tally.
     pub fn new() -> Tally {
         Tally {
             events: Group::new(Subject::Events),
@@ -127,7 +127,7 @@ impl Tally {
         }
     }
 
-    /// Counts an event: what it asked, and its reply.
+    /// Counts an event and its reply.
     pub fn add(&mut self, asked: &Asked, reply: &Reply) {
         self.events.count(Some(event_kind(&asked.deed)));
         self.calls.count(call_kind(&asked.deed));

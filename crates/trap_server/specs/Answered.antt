@@ -1,4 +1,4 @@
--- With what harts go on.
+-- The answers with which harts go on.
 use Rattle.std.specs.Prelude.{◌≡◌, ◌<◌, ◌+◌, ◌-◌, ◌^◌, ℕ, ℤ, negsuc, pos, zero, suc, Bool, false}
 use Rattle.std.specs.Prelude.{List, [], ◌∷◌, ◌++◌, Option, None, Some}
 use Rattle.pmp_encoding.specs.declared.pages.PageRange.{PageRange}
@@ -21,17 +21,17 @@ use Rattle.trap_server.specs.declared.answer.NewLists.TheVariants as renewed
 use Rattle.trap_server.specs.Answers.{front_bytes, given_bytes, lists_bytes}
 use Rattle.enclave_table.specs.Views.{current_view}
 
--- the marks of the harts below n taken away
+-- the state without the marks of the harts below n
 abbrev pub unmarked : ℕ → MonitorState → MonitorState
 unmarked zero s = s
 unmarked (suc n) s = without_mark (unmarked n s) n
 
--- the harts that are marked, of four
+-- the marks of the four harts
 abbrev pub marks_of : MonitorState → List Bool
 marks_of s = s.marked 0 ∷ (s.marked 1 ∷ (s.marked 2 ∷ (s.marked 3 ∷ [])))
 
--- the lists of entries that are new, of the host and of the enclave that was made of this id: each
--- means what its world may do, no list that does is shorter, and each hart has room for it
+-- the new lists of entries, of the host and of the new enclave with this id: each means what its
+-- world may do, no shorter list does, and each hart has enough entries for it
 abbrev pub AreLists : EnclaveTable → ℕ → NewLists → List (List Entry) → Type 0
 AreLists table id renewed.Nothing are = are ≡ []
 AreLists table id renewed.Host are =
@@ -42,27 +42,27 @@ AreLists table id renewed.HostAndMade are =
     × IsListOf table.layout.limit (current_view table (InEnclave id)) made
     × (are ≡ host ∷ (made ∷ []))
 
--- lists that are new were put after some bytes
+-- the new lists were appended to some bytes
 pub record PutsLists (table : EnclaveTable) (id : ℕ) (new : NewLists) (front bytes : List ℕ) :
     Type 0 where
   pub are : List (List Entry)
   pub lists : AreLists table id new are
   pub put : bytes ≡ front ++ lists_bytes are
 
--- which lists are new after a call that asked for a creation: where it was done, which its status
--- says, the host's and that of the enclave
+-- the new lists after a call that asked for a creation: those of the host and of the enclave if its
+-- status says that it succeeded
 abbrev pub made_lists : ℤ → NewLists
 made_lists (pos zero) = renewed.HostAndMade
 made_lists _ = renewed.Nothing
 
--- which lists are new after a call: after a destruction, which leaves pages to be made zero, the
--- host's; otherwise what a creation leaves that the call asked for, if it asked for one
+-- the new lists after a call: the host's after a destruction, which leaves pages to zero; otherwise
+-- those of the creation, if the call asked for one
 abbrev pub new_lists : Option Create → Answer → Option PageRange → NewLists
 new_lists asked answer (Some range) = renewed.Host
 new_lists (Some asked) answer None = made_lists answer.status
 new_lists None answer None = renewed.Nothing
 
--- a status as a word of 64 bits, in two's complement
+-- a status as a 64-bit word in two's complement
 abbrev pub status_word : ℤ → ℕ
 status_word (pos n) = n
 status_word (negsuc n) = 2 ^ 64 - (n + 1)
@@ -87,14 +87,14 @@ head_of s hart answer used cleared woken new given =
 abbrev pub HasWords : SetChange → Type 0
 HasWords change = (change.first < 2 ^ 64) × (change.second < 2 ^ 64)
 
--- so it is for each of some, and each set is there
+-- each change has two 64-bit words and changes an existing set
 pub record AreWords (changes : SetChanges) : Type 0 where
   pub sets : AreOfSets changes
   pub first : HasWords changes.first
   pub second : HasWords changes.second
   pub third : HasWords changes.third
 
--- control words have 64 bits each
+-- each control word has 64 bits
 pub record AreControl (words : ControlWords) : Type 0 where
   pub status : words.status < 2 ^ 64
   pub satp : words.satp < 2 ^ 64
@@ -106,9 +106,8 @@ pub record AreControl (words : ControlWords) : Type 0 where
   pub mideleg : words.mideleg < 2 ^ 64
   pub mode : words.mode < 2 ^ 64
 
--- an answer is written with which a hart goes on: how many entries the world needs that runs
--- there, what becomes of register sets, the lists of entries that are new, and after them the
--- control words that are given
+-- the bytes are the answer with which a hart goes on: the number of entries that the world there
+-- needs, the changes of register sets, the new lists of entries, and then the given control words
 pub record IsAnswer (s : MonitorState) (given : Option ControlWords) (hart : ℕ) (answer : Answer)
     (cleared : Option PageRange) (woken : List Bool) (new : NewLists) (changes : SetChanges)
     (bytes : List ℕ) : Type 0 where
@@ -119,7 +118,7 @@ pub record IsAnswer (s : MonitorState) (given : Option ControlWords) (hart : ℕ
       (head_of s hart answer used cleared woken new given) changes) front
   pub ends : bytes ≡ front ++ given_bytes given
 
--- what is in the answer's place where there was no call
+-- the placeholder answer for a trap that is not a call
 abbrev pub no_answer : Answer
 no_answer = record { status = pos 0; value = 0 }
 

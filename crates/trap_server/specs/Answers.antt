@@ -16,34 +16,34 @@ use Rattle.trap_server.specs.declared.answer.Head.{Head}
 use Rattle.trap_server.specs.declared.answer.NewLists.{NewLists}
 use Rattle.trap_server.specs.declared.answer.NewLists.TheVariants as renewed
 
--- the word whose bit h is of hart h
+-- a truth value as a bit
 abbrev pub bit_of : Bool → ℕ
 bit_of false = 0
 bit_of true = 1
 
--- the harts that are woken, a bit for each
+-- the word with a bit for each hart that is woken
 abbrev pub wake_word : List Bool → ℕ
 wake_word woken =
     bit_of (slice_index_or woken 0 false) + 2 * bit_of (slice_index_or woken 1 false) + 4 * bit_of
     (slice_index_or woken 2 false) + 8 * bit_of (slice_index_or woken 3 false)
 
--- pages, or none from page 0 on
+-- the range of pages, or an empty one from page 0 on
 abbrev pub pages_of : Option PageRange → PageRange
 pages_of None = record { first = 0; count = 0 }
 pages_of (Some range) = range
 
--- how many lists of entries an answer has
+-- the number of lists of entries in an answer
 abbrev pub list_count : NewLists → ℕ
 list_count renewed.Nothing = 0
 list_count renewed.Host = 1
 list_count renewed.HostAndMade = 2
 
--- how many control words
+-- the number of control words in an answer
 abbrev pub control_count : Option ControlWords → ℕ
 control_count None = 0
 control_count (Some words) = 9
 
--- what comes before the changes of register sets
+-- the words before the changes of register sets
 abbrev pub head_bytes : Head → List ℕ
 head_bytes head =
     bytes_of (answer_tag ∷ (head.hart
@@ -60,35 +60,35 @@ kind_number kinds.Answer = 2
 kind_number kinds.Begin = 3
 kind_number kinds.Clear = 4
 
--- what becomes of a register set: how, whose it is, and two words
+-- the change of a register set: its kind, the owner of the set, and two words
 abbrev pub change_bytes : SetChange → List ℕ
 change_bytes change = bytes_of (kind_number change.kind ∷ (change.enclave
     ∷ (change.first ∷ (change.second ∷ []))))
 
--- what becomes of register sets
+-- the changes of register sets
 abbrev pub changes_bytes : SetChanges → List ℕ
 changes_bytes changes = change_bytes changes.first ++ change_bytes changes.second
     ++ change_bytes changes.third
 
--- the configuration byte of an entry, 0 where there is none
+-- the configuration byte of an entry, or 0 if there is none
 abbrev pub cfg_in : Option Entry → ℕ
 cfg_in None = 0
 cfg_in (Some e) = cfg_of e
 
--- its address register
+-- the address register of an entry, or 0 if there is none
 abbrev pub address_in : Option Entry → ℕ
 address_in None = 0
 address_in (Some e) = address_of e
 
--- the configuration byte of entry i of a list, 0 after its end
+-- the configuration byte of entry i of a list, or 0 after its end
 abbrev pub listed_cfg : List Entry → ℕ → ℕ
 listed_cfg entries i = cfg_in (slice_get entries i)
 
--- its address register
+-- the address register of entry i of a list, or 0 after its end
 abbrev pub listed_address : List Entry → ℕ → ℕ
 listed_address entries i = address_in (slice_get entries i)
 
--- those of the entries below n
+-- the configuration bytes of the entries below n
 abbrev pub cfg_bytes : List Entry → ℕ → List ℕ
 cfg_bytes entries zero = []
 cfg_bytes entries (suc n) = cfg_bytes entries n ++ (listed_cfg entries n ∷ [])
@@ -106,13 +106,13 @@ control_bytes words =
     ∷ (words.senvcfg ∷ (words.hstatus
     ∷ (words.medeleg ∷ (words.mideleg ∷ (words.mode ∷ [])))))))))
 
--- those that are given
+-- the given control words, if any
 abbrev pub given_bytes : Option ControlWords → List ℕ
 given_bytes None = []
 given_bytes (Some words) = control_bytes words
 
--- a list of entries as registers: how many they are, 64 configuration bytes and 64 address
--- registers, zero after its end
+-- a list of entries as registers: their number, 64 configuration bytes and 64 address registers,
+-- zero after the end of the list
 abbrev pub list_bytes : List Entry → List ℕ
 list_bytes entries = little_bytes 8 (length entries) ++ cfg_bytes entries 64
     ++ address_bytes entries 64

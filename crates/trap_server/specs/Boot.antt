@@ -1,4 +1,4 @@
--- How the monitor is booted.
+-- The boot of the monitor.
 use Rattle.std.specs.Prelude.{◌≡◌, ◌⊎◌, ◌<◌, ℕ, Bool, false, nat_lt, List, [], ◌∷◌, length, Option}
 use Rattle.std.specs.Prelude.{None, Result, Ok, Err}
 use Rattle.std.specs.Io.KnownBytes.{Appends, Consumes, IsAtEnd}
@@ -23,9 +23,9 @@ use Rattle.trap_server.specs.Answered.{IsAnswer, no_answer}
 use Rattle.trap_server.specs.declared.answer.NewLists.TheVariants as renewed
 use Rattle.trap_server.specs.Ends.{IsPart}
 
--- why the first bytes are refused: they are no frame of a platform, or the input ends within it;
--- its rules are broken; the host's view needs more entries than there are; or memory is refused for
--- a platform that is one
+-- the reason why the first bytes are refused: they are not a platform frame, or the input ends
+-- within it; the platform breaks a rule; the host's view needs too many entries; or an allocation
+-- fails for a valid platform
 abbrev pub RefusesFirst : EndReason → List ℕ → Option (List ℕ) → Type 0
 RefusesFirst NotUnderstood read after = ((length read < 1336) × IsAtEnd after)
     ⊎ ((length read ≡ 1336) × IsNoPlatform NotUnderstood read)
@@ -35,23 +35,23 @@ RefusesFirst (NeedsEntries count) read after = (length read ≡ 1336) × (layout
 RefusesFirst Memory read after = (length read ≡ 1336) × (layout : PlatformLayout)
     × IsPlatformFrame read layout
 
--- the harts but hart 0
+-- all harts except hart 0
 abbrev pub others : ℕ → List Bool
 others harts = false ∷ (nat_lt 1 harts ∷ (nat_lt 2 harts ∷ (nat_lt 3 harts ∷ [])))
 
--- no set of registers changes
+-- no register set changes
 abbrev pub no_changes : SetChanges
 no_changes = record { first = no_change; second = no_change; third = no_change }
 
--- the answer to a platform: with which hart 0 goes on in the opening state, and the list of the
--- host, which all harts load. It changes no set of registers, and gives no control words
+-- the answer to a platform: hart 0 goes on in the opening state, and all harts load the list of the
+-- host; no register set changes, and no control words are given
 abbrev pub IsFirstAnswer : PlatformLayout → List ℕ → Type 0
 IsFirstAnswer layout bytes = IsAnswer (opening_monitor layout) None 0 no_answer None
     (others layout.harts) renewed.Host no_changes bytes
 
--- why the loop ends before a trap was read, and what was written. A refusal is the last frame.
--- Where a read failed nothing was written; where a write did, a part of the last frame or of the
--- answer to the platform
+-- the reason why the loop ends before it reads a trap, and its output: on a refusal the last frame;
+-- nothing if a read failed; and if a write failed, a part of the last frame or of the answer to the
+-- platform
 abbrev pub StopsAtFirst : ServeFault → List ℕ → List ℕ → Option (List ℕ) → Type 0
 StopsAtFirst (faults.Refused refusal) read rest after = RefusesFirst refusal read after
     × (rest ≡ end_bytes refusal)
@@ -66,18 +66,18 @@ abbrev pub IsFirst : PlatformLayout → Option (List ℕ) → Option (List ℕ) 
 IsFirst layout before after = (first : List ℕ) × (length first ≡ 1336)
     × IsPlatformFrame first layout × Consumes before after first
 
--- the loop ends before a trap was read, and why
+-- the loop ends before it reads a trap, for this reason
 abbrev pub EndsAtFirst : ServeFault → Option (List ℕ) → Option (List ℕ) → Option (List ℕ)
     → Option (List ℕ) → Type 0
 EndsAtFirst fault before after held holds = (read rest : List ℕ)
     × StopsAtFirst fault read rest after × Consumes before after read × Appends held holds rest
 
--- the platform keeps its rules, and there are as many entries as the host's view needs at first
+-- the platform is valid, and there are enough entries for the host's initial view
 abbrev pub MayOpen : PlatformLayout → Type 0
 MayOpen layout = IsLayout layout × FitsIn layout.limit (host_view (opening_table layout))
 
--- the platform was read and nothing written, and the monitor is as at its opening; or the
--- loop ends, and why
+-- the platform was read and nothing written, and the monitor is in its opening state; or the loop
+-- ends with a fault
 abbrev pub Boots : Result Core ServeFault → Option (List ℕ) → Option (List ℕ) → Option (List ℕ)
     → Option (List ℕ) → Type 0
 Boots (Ok core) before after held holds =
@@ -86,7 +86,7 @@ Boots (Ok core) before after held holds =
     × Consumes before after first × Appends held holds [] × MayOpen layout
 Boots (Err fault) before after held holds = EndsAtFirst fault before after held holds
 
--- the same of a platform that was read
+-- as above, after the platform was read
 abbrev pub BootsOn : Result Core ServeFault → PlatformLayout → Option (List ℕ) → Option (List ℕ)
     → Type 0
 BootsOn (Ok core) layout held holds = (bare core ≡ opening_monitor layout)

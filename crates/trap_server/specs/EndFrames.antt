@@ -13,13 +13,13 @@ reason_of (Platform fault) = 2
 reason_of (NeedsEntries count) = 3
 reason_of Memory = 4
 
--- what is said beside the reason: the rule that a platform breaks, or how many entries are needed
+-- the detail of a reason: the rule that a platform breaks, or the number of entries needed
 abbrev pub detail_of : EndReason → ℕ
 detail_of NotUnderstood = 0
 detail_of (Platform fault) = platform_fault_number fault
 detail_of (NeedsEntries count) = count
 detail_of Memory = 0
 
--- the bytes of the frame
+-- the bytes of the last frame
 abbrev pub end_bytes : EndReason → List ℕ
 end_bytes refusal = bytes_of (end_tag ∷ (reason_of refusal ∷ (detail_of refusal ∷ [])))

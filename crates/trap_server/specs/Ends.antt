@@ -1,4 +1,4 @@
--- What was written last, where the loop ends early.
+-- The last bytes written when the loop ends early.
 use Rattle.std.specs.Prelude.{◌≡◌, ◌⊎◌, ◌<◌, ℕ, List, [], ◌++◌, length, take, Option, Result}
 use Rattle.std.specs.Prelude.{MatchResult}
 use Rattle.std.specs.Io.KnownBytes.{Appends}
@@ -12,54 +12,54 @@ use Rattle.trap_server.specs.declared.frame_fault.FrameFault.TheVariants as fram
 use Rattle.trap_server.specs.declared.fault.ServeFault.{ServeFault}
 use Rattle.trap_server.specs.declared.fault.ServeFault.TheVariants as faults
 
--- some bytes are a beginning of a frame, and not all of it
+-- the bytes are a proper prefix of a frame
 abbrev pub IsPart : List ℕ → List ℕ → Type 0
 IsPart part frame = (n : ℕ) × (n < length frame) × (part ≡ take n frame)
 
--- some bytes are what comes before a frame, and a part of the frame
+-- the bytes are `front` followed by a proper prefix of a frame
 abbrev pub BreaksOff : List ℕ → List ℕ → List ℕ → Type 0
 BreaksOff rest front frame = (part : List ℕ) × IsPart part frame × (rest ≡ front ++ part)
 
--- the last frame was written, which says why; or a part of it, where the sink failed
+-- the last frame was written with the reason; or a part of it, if the sink failed
 abbrev pub Refuses : ServeFault → EndReason → Option (List ℕ) → Option (List ℕ) → Type 0
 Refuses result refusal held holds =
     ((result ≡ faults.Refused refusal) × Appends held holds (end_bytes refusal))
     ⊎ ((result ≡ faults.Write) × TakesPart (end_bytes refusal) held holds)
 
--- the loop ends with a frame's fault: what is not understood is refused, and where a device failed
+-- the loop ends with a frame's fault: an invalid frame is refused, and after a failed device
 -- nothing more is written
 abbrev pub EndsAs : ServeFault → FrameFault → Option (List ℕ) → Option (List ℕ) → Type 0
 EndsAs result frames.NotUnderstood held holds = Refuses result refusals.NotUnderstood held holds
 EndsAs result frames.Read held holds = (result ≡ faults.Read) × Appends held holds []
 EndsAs result frames.Write held holds = (result ≡ faults.Write) × Appends held holds []
 
--- a read failed where that is the fault, and otherwise none did
+-- one read failed if that is the fault, and none otherwise
 abbrev pub CountsRead : ServeFault → ℕ → ℕ → Type 0
 CountsRead faults.Read before after = GrowsByOne before after
 CountsRead _ before after = after ≡ before
 
--- a write failed, or took none of some bytes, where that is the fault, and otherwise none did
+-- one write failed or was stalled if that is the fault, and none otherwise
 abbrev pub CountsWrite : ServeFault → ℕ → ℕ → ℕ → ℕ → Type 0
 CountsWrite faults.Write failures failed stalls stalled = WriteFails failures failed stalls stalled
 CountsWrite _ failures failed stalls stalled = (failed ≡ failures) × (stalled ≡ stalls)
 
--- what a call that ends in a fault or well counts of its reads
+-- the failed reads of a call that may end in a fault
 abbrev pub CountsReads : {X : Type 0} → Result X ServeFault → ℕ → ℕ → Type 0
 CountsReads result before after =
     MatchResult result (λ _. after ≡ before) (λ fault. CountsRead fault before after)
 
--- and of its writes
+-- the failed writes of a call that may end in a fault
 abbrev pub CountsWrites : {X : Type 0} → Result X ServeFault → ℕ → ℕ → ℕ → ℕ → Type 0
 CountsWrites result failures failed stalls stalled =
     MatchResult result (λ _. (failed ≡ failures)
     × (stalled ≡ stalls)) (λ fault. CountsWrite fault failures failed stalls stalled)
 
--- what a frame's fault counts of reads
+-- the failed reads of a frame's fault
 abbrev pub FrameRead : FrameFault → ℕ → ℕ → Type 0
 FrameRead frames.Read before after = GrowsByOne before after
 FrameRead _ before after = after ≡ before
 
--- and of writes
+-- the failed writes of a frame's fault
 abbrev pub FrameWrite : FrameFault → ℕ → ℕ → ℕ → ℕ → Type 0
 FrameWrite frames.Write failures failed stalls stalled = WriteFails failures failed stalls stalled
 FrameWrite _ failures failed stalls stalled = (failed ≡ failures) × (stalled ≡ stalls)

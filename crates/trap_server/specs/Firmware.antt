@@ -1,4 +1,4 @@
--- What holds after every list of traps that was served and answered.
+-- The properties of every list of traps that was served and answered.
 use Rattle.std.specs.Prelude.{◌≡◌, ◌≢◌, ◌⊎◌, ℕ, ◌+◌, ◌/◌, ◌%◌, ◌^◌, ◌<◌, ◌≤◌, ◌==◌, zero, suc}
 use Rattle.std.specs.Prelude.{nat_lt, Bool, true, false, ◌&&◌, if◌then◌else◌, List, [], ◌∷◌, length}
 use Rattle.std.specs.Prelude.{drop, slice_index_or, Option, None, Some, IfSome, ⊤}
@@ -48,18 +48,18 @@ use Rattle.trap_server.specs.Words.{word_at}
 abbrev pub loaded_cfg : List ℕ → ℕ → ℕ
 loaded_cfg bytes i = slice_index_or bytes (8 + i) 0
 
--- its address register there
+-- the address register of entry i in the bytes of a list
 abbrev pub loaded_address : List ℕ → ℕ → ℕ
 loaded_address bytes i = word_at bytes (9 + i)
 
--- the pairs of the entries from `first` on, `count` of them
+-- the pairs of `count` entries from `first` on
 abbrev pub loaded_pairs : List ℕ → ℕ → ℕ → List (ℕ × ℕ)
 loaded_pairs bytes first zero = []
 loaded_pairs bytes first (suc count) = (loaded_cfg bytes first, loaded_address bytes first)
     ∷ loaded_pairs bytes (suc first) count
 
--- the registers in the bytes of a list have entries that mean a view, and no list that does is
--- shorter. A hart of that many entries has room for it, and every entry after it is OFF
+-- the registers in the bytes of a list encode entries that mean a view, and no shorter list does; a
+-- hart with this limit has room for them, and all later entries are OFF
 pub record HasFewest (bytes : List ℕ) (limit : Limit) (view : View) : Type 0 where
   pub entries : List Entry
   pub fewest : IsFewest view entries
@@ -68,25 +68,25 @@ pub record HasFewest (bytes : List ℕ) (limit : Limit) (view : View) : Type 0 w
   pub off : (i : ℕ) → length entries ≤ i → i < 64 → (loaded_cfg bytes i ≡ 0)
       × (loaded_address bytes i ≡ 0)
 
--- the list of a world by its number, 0 for the host, after an answer. Word 9 says how many lists
--- are in it: the first is the host's, the second that of the enclave whose number is in word 4.
--- Each other world keeps the list that it had
+-- the list of a world by its number, 0 for the host, after an answer. Word 9 is the number of lists
+-- in the answer: the first is the host's, the second that of the enclave in word 4. Each other
+-- world keeps its list
 abbrev pub list_after : List ℕ → (ℕ → List ℕ) → ℕ → List ℕ
 list_after answered lists zero = if nat_lt 0 (word_at answered 9) then drop 184 answered
     else lists 0
 list_after answered lists (suc n) = if word_at answered 9 == 2 && word_at answered 4 == suc n
     then drop 768 answered else lists (suc n)
 
--- what a hart has loaded after an answer, by the lists of the worlds: where the answer names it, in
--- word 1, that of the world in word 2; where its bit is among the woken, in word 8, the host's; and
--- otherwise what it had
+-- the list that a hart has loaded after an answer, by the lists of the worlds: that of the world in
+-- word 2 if the hart is the one in word 1; the host's if its bit in word 8 is set; and otherwise
+-- the list that it had
 abbrev pub loaded_after : List ℕ → (ℕ → List ℕ) → List ℕ → ℕ → List ℕ
 loaded_after answered lists before hart = if word_at answered 1 == hart
     then lists (word_at answered 2)
     else (if word_at answered 8 / 2 ^ hart % 2 == 1 then lists 0 else before)
 
--- the list that was answered last of a world by its number; before any trap the one of the answer
--- to the platform
+-- the list last answered for a world by its number; before any trap, the one in the answer to the
+-- platform
 abbrev pub list_last : (opened : List ℕ) {old : MonitorState} {read written : List ℕ}
     {new : MonitorState} → ServesTraps old read written new → ℕ → List ℕ
 list_last opened no_trap world = drop 184 opened
@@ -103,19 +103,19 @@ loaded_last opened
     loaded_after answered (list_after answered (list_last opened served))
     (loaded_last opened served hart) hart
 
--- the host, or an enclave that is live
+-- the world exists: it is the host or a live enclave
 abbrev pub IsThere : EnclaveTable → World → Type 0
 IsThere table Host = ⊤
 IsThere table (InEnclave id) = (e : Enclave) × Live table id e
 
--- whether the list of a world is new, where that of an enclave is of this id
+-- the list of a world is new, given the id of the new enclave
 abbrev pub is_new : NewLists → ℕ → World → Bool
 is_new renewed.Nothing id world = false
 is_new renewed.Host id world = is_host world
 is_new renewed.HostAndMade id Host = true
 is_new renewed.HostAndMade id (InEnclave other) = id == other
 
--- the call that a trap is, if it is one
+-- the call that a trap makes, if it is one
 abbrev pub called : TrapEvent → RegisterFile → Option Call
 called trap_events.Call registers = call_of registers
 called trap_events.Stop registers = None
@@ -127,13 +127,13 @@ private_pages parts = record {
   count = parts.text_pages + parts.data_pages;
 }
 
--- pages that are to be made zero are memory, and none is the monitor's; and they are the private
--- pages of an enclave that was destroyed
+-- pages to zero are memory and not the monitor's, and they are the private pages of an enclave that
+-- was destroyed
 abbrev pub AreDestroyed : MonitorState → MonitorState → PageRange → Type 0
 AreDestroyed old new range = ClearsMemory old.table.layout range
     × ((id : ℕ) × (gone : IsGone old new id) × (range ≡ private_pages gone.0.parts))
 
--- either no page was asked for and none was read; or pages were asked for that are memory, none the
+-- either no page was requested and none was read; or the requested pages are memory and not the
 -- monitor's, and each was read once, by rising number
 abbrev pub AsksMemory : PlatformLayout → List ℕ → List ℕ → Type 0
 AsksMemory layout question read =
@@ -142,7 +142,7 @@ AsksMemory layout question read =
     × (question ≡ question_bytes range.first range.count)
     × ArePages range.first range.count read pages)
 
--- the registers that a world is left with which trapped: those that it had; after a call the
+-- the registers of the world that trapped are those that it had, except that after a call the
 -- program counter is past it, and a0 and a1 may be an answer
 abbrev pub AreThose : TrapEvent → RegisterFile → RegisterFile → Type 0
 AreThose trap_events.Call came now =
@@ -150,36 +150,36 @@ AreThose trap_events.Call came now =
     ⊎ ((first second : ℕ) × (now ≡ with_x (with_x (past_call came) 10 first) 11 second))
 AreThose trap_events.Stop came now = now ≡ came
 
--- what is kept over a trap that was served: what was asked for and read, the answer, and the state
--- before and after
+-- the properties of a trap that was served: of what was requested and read, of the answer, and of
+-- the states before and after
 pub record KeepsTrap (old : MonitorState) (trap : Trap) (changes : SetChanges)
     (read question answered : List ℕ) (new : MonitorState) : Type 0 where
-  -- what the answer says: its status and value, the pages that are to be made zero, the harts that
-  -- are woken, the lists of entries that are new, and the control words where a host enters an
-  -- enclave
+  -- the contents of the answer: its status and value, the pages to zero, the harts that are woken,
+  -- the new lists of entries, and the control words if a host enters an enclave
   pub answer : Answer
   pub cleared : Option PageRange
   pub woken : List Bool
   pub lists : NewLists
   pub says : IsAnswer new (given_at old new trap) trap.hart answer cleared woken lists changes
       answered
-  -- a creation or destruction is refused for want of entries just where a view after it needs more
+  -- a creation or destruction is refused for lack of entries iff a resulting view needs too many of
+  -- them
   pub need :
       IsRefusedByNeed (called trap.event trap.registers) old.table (old.worlds trap.hart)
       (λ refusal. answer.status ≡ below_zero (refusal_number refusal))
-  -- pages that are asked for, and pages that are to be made zero
+  -- the pages that are requested, and the pages to zero
   pub asks : AsksMemory old.table.layout question read
   pub zeroes : IfSome cleared (AreDestroyed old new)
   pub destroys : (id : ℕ) → (gone : IsGone old new id)
       → cleared ≡ Some (private_pages gone.0.parts)
-  -- an enclave whose list is new is there. A world that is there, and whose list is not new, was
-  -- there before, and its view stays: its list is right still
+  -- an enclave whose list is new exists. A world that exists and whose list is not new existed
+  -- before, and its view is unchanged, so its list is still right
   pub made : lists ≡ renewed.HostAndMade → IsThere new.table (InEnclave answer.value)
   pub keeps : (world : World) → IsThere new.table world → is_new lists answer.value world ≡ false
       → IsThere old.table world
       × SameView (current_view old.table world) (current_view new.table world)
   -- a hart that is woken runs the host. Each other hart stays in its world, and if it is not woken
-  -- its view stays too: it may go on with the entries that it has
+  -- its view is unchanged too, so it may go on with its entries
   pub wakes : (other : ℕ) → other < old.table.layout.harts
       → slice_index_or woken other false ≡ true → new.worlds other ≡ Host
   pub stays : (other : ℕ) → other ≢ trap.hart → new.worlds other ≡ old.worlds other
@@ -188,14 +188,14 @@ pub record KeepsTrap (old : MonitorState) (trap : Trap) (changes : SetChanges)
       → slice_index_or woken other false ≡ false
       → SameView (current_view old.table (old.worlds other))
       (current_view new.table (new.worlds other))
-  -- the registers of each world, by the sets before the changes of the answer and after them; and
-  -- those of the world that trapped, if that was no exit
+  -- the registers of each world, by the sets before and after the changes of the answer; and those
+  -- of the world that trapped, unless it exited
   pub registers : KeepsRegisters old trap.hart new
   pub came : ((id : ℕ) → runner_on old trap.hart ≡ EnclaveOf id → HasExited old new id → ⊥)
       → AreThose trap.event (running_registers old trap.hart)
       (new.registers (runner_on old trap.hart))
 
--- each trap of a run keeps that, whatever the register sets are
+-- each trap of a run has these properties, whatever the register sets contain
 abbrev pub AreKept : {old : MonitorState} {read written : List ℕ} {new : MonitorState}
     → ServesTraps old read written new → Type 0
 AreKept no_trap = ⊤
@@ -205,10 +205,10 @@ AreKept (next_trap {mid = mid} served trap frame more question answered changes 
     (with_sets new (changed trap.hart changes sets)))
 
 -- after any traps: the table is sound, and the platform is the one that was read. Each hart is in
--- the host's world or in that of an enclave that is Running, and each of these runs on just one; no
--- hart is to be woken. The list that was answered last of each world that is there means its view,
--- by the fewest entries that do, and so does the list that each hart loaded last for the view of
--- its world. And what each trap kept
+-- the host's world or in that of a Running enclave, each of which runs on exactly one hart; no hart
+-- is marked. The list last answered for each existing world means its view with the fewest entries,
+-- and so does the list last loaded by each hart, for the view of its world. Each trap has the
+-- properties above
 pub record FirmwareHeadline (layout : PlatformLayout) (opened read written : List ℕ)
     (s : MonitorState) (served : ServesTraps (opening_monitor layout) read written s) : Type 0 where
   pub table : IsTable s.table

@@ -1,4 +1,4 @@
--- Which control words an answer gives, and which its bytes say.
+-- The control words that an answer gives, and their place in its bytes.
 use Rattle.std.specs.Prelude.{ℕ, ◌+◌, ◌*◌, ◌==◌, if◌then◌else◌, List, Option, None, Some}
 use Rattle.sbi_decode.specs.declared.world.World.{World}
 use Rattle.sbi_decode.specs.declared.world.World.TheVariants.{Host, Enclave as InEnclave}
@@ -7,15 +7,15 @@ use Rattle.trap_server.specs.declared.words.ControlWords.{ControlWords}
 use Rattle.trap_server.specs.Tables.{enclave_words}
 use Rattle.trap_server.specs.Words.{word_at}
 
--- the words that are given at a trap, by the worlds that run on the hart before and after it, and
--- by what came with it: those of an enclave where a host enters it. Otherwise none are: the world
--- that goes on has those with which it ran there last
+-- the control words given at a trap, by the worlds that run on the hart before and after it and by
+-- the host's words: an enclave's when a host enters it. Otherwise there are none, and the world
+-- goes on with those with which it last ran there
 abbrev pub words_given : World → World → HostWords → Option ControlWords
 words_given Host (InEnclave id) came = Some (enclave_words came)
 words_given Host Host came = None
 words_given (InEnclave id) after came = None
 
--- the control words that are in bytes from a word on, in their order
+-- the control words in bytes from a word on, in their order
 abbrev pub control_at : List ℕ → ℕ → ControlWords
 control_at bytes from = record {
   status = word_at bytes from;
@@ -29,8 +29,8 @@ control_at bytes from = record {
   mode = word_at bytes (from + 8);
 }
 
--- the control words that an answer says: word 10 is how many, nine or none. They are after its
--- lists, of which word 9 says how many they are
+-- the control words in an answer: word 10 is their number, nine or none. They are after its lists,
+-- whose number is in word 9
 abbrev pub said_words : List ℕ → Option ControlWords
 said_words answered = if word_at answered 10 == 9
     then Some (control_at answered (23 + 73 * word_at answered 9)) else None

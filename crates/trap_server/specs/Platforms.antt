@@ -18,24 +18,23 @@ use Rattle.trap_server.specs.declared.end.EndReason.{EndReason}
 use Rattle.trap_server.specs.declared.end.EndReason.TheVariants.{NotUnderstood, Platform}
 use Rattle.trap_server.specs.declared.end.EndReason.TheVariants.{NeedsEntries, Memory}
 
--- the first ranges of memory: two words each, from word 7 on
+-- the first n ranges of memory: two words each, from word 7 on
 abbrev pub ram_in : List ℕ → ℕ → List (ℕ × ℕ)
 ram_in bytes zero = []
 ram_in bytes (suc n) = ram_in bytes n
     ++ ((word_at bytes (7 + 2 * n), word_at bytes (8 + 2 * n)) ∷ [])
 
--- the words of the first devices: three each, from word 71 on; and the words of devices, a
--- permission by its bits
+-- the words of the first n devices: three each, from word 71 on
 abbrev pub device_words : List ℕ → ℕ → List (ℕ × ℕ × ℕ)
 device_words bytes zero = []
 device_words bytes (suc n) = device_words bytes n
     ++ ((word_at bytes (71 + 3 * n), word_at bytes (72 + 3 * n), word_at bytes (73 + 3 * n)) ∷ [])
 
--- the three words of a device: base, size, permission
+-- the three words of a device: base, size, and the bits of the permission
 abbrev pub words_of_device : (ℕ × ℕ × Perm) → ℕ × ℕ × ℕ
 words_of_device device = (device.0, device.1, bits_of device.2)
 
--- those of all devices
+-- the words of all devices
 abbrev pub words_of : List (ℕ × ℕ × Perm) → List (ℕ × ℕ × ℕ)
 words_of devices = map words_of_device devices
 
@@ -52,37 +51,37 @@ pub record IsPlatformFrame (bytes : List ℕ) (layout : PlatformLayout) : Type 0
   pub entries : limit_number layout.limit ≡ word_at bytes 2
   pub ranges : HasRanges bytes layout
 
--- there is room for as many ranges and devices as the frame says
+-- the frame has room for its ranges and devices
 abbrev pub AreFew : List ℕ → Type 0
 AreFew bytes = (word_at bytes 5 ≤ 32) × (word_at bytes 6 ≤ 32)
 
--- the third word of a device is the bits of no permission
+-- the third word of a device encodes no permission
 abbrev pub LacksPermission : List ℕ → Type 0
 LacksPermission bytes = (k : ℕ) × (k < word_at bytes 6)
     × ((perm : Perm) → bits_of perm ≡ word_at bytes (73 + 3 * k) → ⊥)
 
--- the rules on the words of its harts and entries, each with its fault
+-- the rules for the numbers of harts and entries, each with its fault
 abbrev pub shape_rules : List ℕ → List (PlatformFault × Type 0)
 shape_rules bytes = (BadHarts, (0 < word_at bytes 1) × (word_at bytes 1 ≤ 4))
     ∷ ((BadEntries, (word_at bytes 2 ≡ 16) ⊎ (word_at bytes 2 ≡ 64)) ∷ [])
 
--- there is no room for its ranges; or of the rules on the ranges of a platform, and more rules
--- after them, this one is the first that is broken
+-- there is no room for the ranges; or this is the first broken rule among those for the ranges of a
+-- platform and `more`
 abbrev pub BreaksRule : List ℕ → List (PlatformFault × Type 0) → PlatformFault → Type 0
 BreaksRule bytes more fault =
     ((fault ≡ BadNumber) × (AreFew bytes → ⊥))
     ⊎ (AreFew bytes × (layout : PlatformLayout) × HasRanges bytes layout
     × FailsFirst (platform_rules layout.monitor layout.ram layout.devices ++ more) fault)
 
--- why bytes are the ranges of no platform
+-- the reason why bytes are not the ranges of a platform
 abbrev pub AreNoRanges : EndReason → List ℕ → Type 0
 AreNoRanges NotUnderstood bytes = AreFew bytes × LacksPermission bytes
 AreNoRanges (Platform fault) bytes = BreaksRule bytes [] fault
 AreNoRanges (NeedsEntries count) bytes = ⊥
 AreNoRanges Memory bytes = ⊥
 
--- why as many bytes as a frame of a platform has are none: another tag, or a device without a
--- permission, is not understood; otherwise the first rule that is broken says why
+-- the reason why bytes of the size of a platform frame are invalid: another tag, or a device
+-- without a permission, is not understood; otherwise the first broken rule is the reason
 abbrev pub IsNoPlatform : EndReason → List ℕ → Type 0
 IsNoPlatform NotUnderstood bytes = (word_at bytes 0 ≡ platform_tag → ⊥)
     ⊎ ((word_at bytes 0 ≡ platform_tag) × AreFew bytes × LacksPermission bytes)
@@ -91,7 +90,7 @@ IsNoPlatform (Platform fault) bytes = (word_at bytes 0 ≡ platform_tag)
 IsNoPlatform (NeedsEntries count) bytes = ⊥
 IsNoPlatform Memory bytes = ⊥
 
--- what the read of the platform answers, by what it consumed
+-- the result of reading the platform, by the bytes consumed
 abbrev pub ReadsPlatform : Result (Result PlatformLayout EndReason) FrameFault → Option (List ℕ)
     → Option (List ℕ) → Type 0
 ReadsPlatform (Ok (Ok layout)) before after = (bytes : List ℕ) × (length bytes ≡ 1336)

@@ -1,4 +1,4 @@
--- A run of the loop.
+-- Runs of the loop.
 use Rattle.std.specs.Prelude.{◌≡◌, ◌⊎◌, ℕ, ◌+◌, ◌-◌, ◌^◌, ◌<◌, List, [], ◌++◌, length, Option, ⊤}
 use Rattle.std.specs.Io.KnownBytes.{Appends, Consumes}
 use Rattle.platforms.specs.Platform.{IsLayout, PlatformLayout}
@@ -19,8 +19,8 @@ use Rattle.trap_server.specs.Service.{ServesAll, given_at}
 use Rattle.trap_server.specs.Steps.{Says, StopsTrap}
 use Rattle.monitor_core.specs.declared.set_changes.SetChanges.{SetChanges}
 
--- traps that were served in turn, from one state to another: the bytes that were read for them, and
--- those that were written
+-- traps served in turn, from one state to another, with the bytes read for them and the bytes
+-- written
 pub data ServesTraps (old : MonitorState) : List ℕ → List ℕ → MonitorState → Type 0 where
   no_trap : ServesTraps old [] [] old
   next_trap : {read written : List ℕ} {mid : MonitorState} → ServesTraps old read written mid
@@ -29,23 +29,22 @@ pub data ServesTraps (old : MonitorState) : List ℕ → List ℕ → MonitorSta
       → ServesAll mid trap changes more question answered new
       → ServesTraps old (read ++ (frame ++ more)) (written ++ (answered ++ question)) new
 
--- how many they are
+-- the number of traps
 abbrev pub trap_count : {old : MonitorState} {read written : List ℕ} {new : MonitorState}
     → ServesTraps old read written new → ℕ
 trap_count no_trap = 0
 trap_count (next_trap served trap frame more question answered changes new size is step) =
     trap_count served + 1
 
--- what becomes of register sets at each trap is what its answer says; and so are the control words
--- that are given
+-- each answer contains the changes of register sets and the control words at its trap
 abbrev pub AreSaid : {old : MonitorState} {read written : List ℕ} {new : MonitorState}
     → ServesTraps old read written new → Type 0
 AreSaid no_trap = ⊤
 AreSaid (next_trap {mid = mid} served trap frame more question answered changes new size is step) =
     AreSaid served × Says answered changes (given_at mid new trap)
 
--- the platform was read, which keeps its rules and has as many entries as the host's view needs,
--- and its answer written; then traps were served, and after them these bytes were read and written
+-- the platform was read, is valid and has enough entries for the host's view, and its answer was
+-- written; then traps were served, and after them these bytes were read and written
 pub record Ran (before after held holds : Option (List ℕ)) (beyond rest : List ℕ) : Type 0 where
   pub layout : PlatformLayout
   pub first : List ℕ
@@ -65,14 +64,15 @@ pub record Ran (before after held holds : Option (List ℕ)) (beyond rest : List
   pub consumed : Consumes before after (first ++ (read ++ beyond))
   pub appended : Appends held holds (opened ++ (written ++ rest))
 
--- why there is no next trap after that many: what came is no frame of one, or there were 2^64 - 1
+-- the reason why no trap follows after `count` traps: the bytes are not a trap frame, or there were
+-- 2^64 - 1
 abbrev pub RefusesNext : ℕ → MonitorState → List ℕ → Option (List ℕ) → Type 0
 RefusesNext count s beyond after = IsNoTrap beyond s.table.layout.harts after
     ⊎ ((count ≡ 2 ^ 64 - 1) × (beyond ≡ []))
 
--- why the loop ends before the next trap was read, and what was written. A refusal is the last
--- frame. Where a read failed less than a trap was read and nothing written; where a write did, a
--- part of the last frame
+-- the reason why the loop ends before it reads the next trap, and its output: on a refusal the last
+-- frame; if a read failed, nothing, after less than a trap was read; and if a write failed, a part
+-- of the last frame
 abbrev pub StopsBetween : ServeFault → ℕ → MonitorState → List ℕ → List ℕ → Option (List ℕ) → Type 0
 StopsBetween (faults.Refused NotUnderstood) count s beyond rest after =
     RefusesNext count s beyond after × (rest ≡ end_bytes NotUnderstood)
@@ -81,16 +81,16 @@ StopsBetween faults.Read count s beyond rest after = (length beyond < 96) × (re
 StopsBetween faults.Write count s beyond rest after = RefusesNext count s beyond after
     × IsPart rest (end_bytes NotUnderstood)
 
--- the next trap was read, and why the loop ends at it
+-- the next trap was read, and the loop ends while serving it, for this reason
 abbrev pub StopsInside : ServeFault → MonitorState → List ℕ → List ℕ → Option (List ℕ) → Type 0
 StopsInside fault s beyond rest after =
     (trap : Trap) × (frame read : List ℕ) × (length frame ≡ 96)
     × IsTrapFrame frame s.table.layout.harts trap × StopsTrap fault s trap read rest after
     × (beyond ≡ frame ++ read)
 
--- the loop ended early, and why: before a trap was read, or after some traps, of which each was
--- served and answered. Then some bytes were read beyond them and some written, before the next trap
--- was read or after it
+-- the loop ended early, for this reason: before it read a trap, or after some traps, each of which
+-- was served and answered. In the latter case more bytes were read and written, before or after it
+-- read the next trap
 abbrev pub EndsEarly : ServeFault → Option (List ℕ) → Option (List ℕ) → Option (List ℕ)
     → Option (List ℕ) → Type 0
 EndsEarly fault before after held holds =

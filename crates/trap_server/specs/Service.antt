@@ -1,4 +1,4 @@
--- How a trap is served.
+-- The service of a trap.
 use Rattle.std.specs.Prelude.{◌≡◌, ◌⊎◌, ℕ, ◌+◌, ◌/◌, List, [], Option, None}
 use Rattle.pmp_encoding.specs.declared.pages.PageRange.{PageRange}
 use Rattle.measurement.specs.Digests.{layout_of}
@@ -25,12 +25,12 @@ use Rattle.trap_server.specs.PageDigest.{ArePages, question_of}
 use Rattle.trap_server.specs.declared.answer.NewLists.TheVariants as renewed
 use Rattle.trap_server.specs.Answered.{IsAnswer, marks_of, new_lists, no_answer, unmarked}
 
--- the control words that a trap gives, which came in one state and goes on in another
+-- the control words given at a trap, by the states before and after it
 abbrev pub given_at : MonitorState → MonitorState → Trap → Option ControlWords
 given_at s new trap = words_given (s.worlds trap.hart) (new.worlds trap.hart) trap.host
 
--- a call of the world that runs on a hart is a step of the monitor, in which a creation gets this
--- digest; then no hart is marked, and each that was is woken. So it is answered
+-- a call of the world on a hart is a step of the monitor, in which a creation gets this digest;
+-- then each marked hart is woken, and the answer is written
 pub record AnswersCall (s : MonitorState) (trap : Trap) (changes : SetChanges) (digest : List ℕ)
     (answer : Answer) (answered : List ℕ) (new : MonitorState) : Type 0 where
   pub cleared : Option PageRange
@@ -42,8 +42,8 @@ pub record AnswersCall (s : MonitorState) (trap : Trap) (changes : SetChanges) (
   pub goes_on : IsAnswer new (given_at s new trap) trap.hart answer cleared (marks_of mid)
       (new_lists (asked_in (call_of trap.registers)) answer cleared) changes answered
 
--- after an enclave was made its private pages are asked for, and read once, by rising number, and
--- the digest is that of its layout and these pages; nothing else is asked for or read
+-- after an enclave was created, its private pages are requested and read once, by rising number,
+-- and the digest is that of its layout and these pages; otherwise nothing is requested or read
 abbrev pub AsksFor : Option Create → Answer → List ℕ → List ℕ → List ℕ → Type 0
 AsksFor asked answer question read digest =
     ((question ≡ []) × (read ≡ []) × ((parts : Create) → IsMade asked answer parts → ⊥))
@@ -52,7 +52,7 @@ AsksFor asked answer question read digest =
     × ArePages (parts.base / 4096) (parts.text_pages + parts.data_pages) read pages
     × (digest ≡ digest_of (layout_of parts) pages))
 
--- a call is answered, and then an enclave that it made gets the digest of the pages that were read
+-- a call is answered, and then a new enclave gets the digest of the pages that were read
 pub record ServesCall (s : MonitorState) (trap : Trap) (changes : SetChanges)
     (read question answered : List ℕ) (new : MonitorState) : Type 0 where
   pub digest : List ℕ
@@ -71,7 +71,7 @@ pub record ServesStop (s : MonitorState) (trap : Trap) (changes : SetChanges)
   pub goes_on : IsAnswer new (given_at s new trap) trap.hart no_answer None (marks_of mid)
       renewed.Nothing changes answered
 
--- a trap is served, by what happened
+-- a trap is served according to its event
 abbrev pub ServesAs : TrapEvent → MonitorState → Trap → SetChanges → List ℕ → List ℕ → List ℕ
     → MonitorState → Type 0
 ServesAs Call s trap changes read question answered new =
@@ -79,8 +79,8 @@ ServesAs Call s trap changes read question answered new =
 ServesAs Stop s trap changes read question answered new =
     ServesStop s trap changes read question answered new
 
--- so it is whatever the register sets are in which the trap's call is, and the answer says what
--- becomes of them
+-- a trap is served so for all register sets that contain its call, and the answer describes the
+-- changes of the sets
 abbrev pub ServesAll : MonitorState → Trap → SetChanges → List ℕ → List ℕ → List ℕ → MonitorState
     → Type 0
 ServesAll s trap changes read question answered new =
@@ -88,7 +88,8 @@ ServesAll s trap changes read question answered new =
     → ServesAs trap.event (with_sets s sets) trap changes read question answered
     (with_sets new (changed trap.hart changes sets))
 
--- two traps that a frame is of differ in registers that it does not have, and are served alike
+-- two traps with the same frame differ only in registers that the frame does not contain, and are
+-- served alike
 abbrev pub FramesTell : Type 0
 FramesTell =
     (frame : List ℕ) (harts : ℕ) (one other : Trap) → IsTrapFrame frame harts one

@@ -1,4 +1,4 @@
--- The register sets of hosts and enclaves, which lie with the harts. The loop keeps none.
+-- The register sets of hosts and enclaves, which stay with the harts. The loop keeps none.
 use Rattle.std.specs.Prelude.{◌≡◌, ℕ, zero, suc, ◌+◌, List}
 use Rattle.sbi_decode.specs.Calls.{call_of}
 use Rattle.sbi_decode.specs.Registers.{RegisterFile, zeros}
@@ -14,7 +14,7 @@ use Rattle.monitor_core.specs.declared.steps.Core.{Core}
 use Rattle.trap_server.specs.Words.{word_at}
 use Rattle.trap_server.specs.declared.trap.Trap.{Trap}
 
--- the state of the loop, in which each register is zero
+-- the state of the loop, with all registers zero
 abbrev pub bare : Core → MonitorState
 bare core = core_state core (λ who. zeros)
 
@@ -22,7 +22,7 @@ bare core = core_state core (λ who. zeros)
 abbrev pub with_sets : MonitorState → (Runner → RegisterFile) → MonitorState
 with_sets s sets = record s { registers = sets }
 
--- in these sets the world that trapped makes the call of the trap, whose frame has a0 to a7 alone
+-- in these sets the world that trapped makes the call of the trap, whose frame has only a0 to a7
 abbrev pub AreThere : MonitorState → Trap → (Runner → RegisterFile) → Type 0
 AreThere s trap sets = call_of (sets (runner_on s trap.hart)) ≡ call_of trap.registers
 
@@ -34,7 +34,7 @@ kind_by (suc (suc (suc zero))) = kinds.Begin
 kind_by (suc (suc (suc (suc zero)))) = kinds.Clear
 kind_by _ = kinds.Nothing
 
--- the change that is in an answer from a word on: its kind, whose set it is, and two words
+-- the change in an answer from a word on: its kind, the owner of the set, and two words
 abbrev pub change_at : List ℕ → ℕ → SetChange
 change_at answered from = record {
   kind = kind_by (word_at answered from);
@@ -43,7 +43,7 @@ change_at answered from = record {
   second = word_at answered (from + 3);
 }
 
--- what an answer says of register sets
+-- the changes of register sets in an answer
 abbrev pub said_changes : List ℕ → SetChanges
 said_changes answered = record {
   first = change_at answered 11;

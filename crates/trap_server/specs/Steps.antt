@@ -1,4 +1,4 @@
--- What each part of the loop does, where it is done and where it is not.
+-- The effect of each part of the loop, on success and on failure.
 use Rattle.std.specs.Prelude.{◌≡◌, ◌⊎◌, ℕ, ◌+◌, ◌/◌, List, [], ◌++◌, Option}
 use Rattle.std.specs.Prelude.{Result, Ok, Err}
 use Rattle.std.specs.Io.KnownBytes.{Appends, Consumes}
@@ -33,14 +33,14 @@ use Rattle.trap_server.specs.declared.trap.TrapEvent.{TrapEvent}
 use Rattle.trap_server.specs.declared.trap.TrapEvent.TheVariants.{Call, Stop}
 use Rattle.trap_server.specs.declared.words.ControlWords.{ControlWords}
 
--- bytes of a kind were written, or a part of them, where the sink failed
+-- bytes of a kind were written, or a part of them if the sink failed
 abbrev pub Writes : Result (Unit {0}) ServeFault → (List ℕ → Type 0) → Option (List ℕ)
     → Option (List ℕ) → Type 0
 Writes (Ok done) Are held holds = (bytes : List ℕ) × Are bytes × Appends held holds bytes
 Writes (Err fault) Are held holds = (fault ≡ faults.Write) × (bytes : List ℕ) × Are bytes
     × TakesPart bytes held holds
 
--- a trap is answered by what happened, whatever digest an enclave that it makes will get
+-- a trap is answered according to its event, whatever digest a new enclave will get
 abbrev pub AnswersAs : TrapEvent → MonitorState → Trap → SetChanges → Answer → List ℕ
     → MonitorState → Type 0
 AnswersAs Call s trap changes answer answered new = (digest : List ℕ)
@@ -57,15 +57,15 @@ pub record AnswersTrap (s : MonitorState) (trap : Trap) (answer : Answer) (answe
       → AnswersAs trap.event (with_sets s sets) trap changes answer answered
       (with_sets new (changed trap.hart changes sets))
 
--- a call is answered that made an enclave of these parts, so that its private pages are asked for
+-- a call that created an enclave of these parts is answered, so that its private pages are
+-- requested
 abbrev pub AnswersMade : MonitorState → Trap → Create → List ℕ → Type 0
 AnswersMade s trap parts answered = (trap.event ≡ Call) × (answer : Answer)
     × IsMade (asked_in (call_of trap.registers)) answer parts × AnswersTrap s trap answer answered
 
--- why the loop ends after an enclave of these parts was made and the call answered: what was read
--- and written since. Its pages were asked for, and what came is no frame of the page that was to
--- come, or a read failed before that was whole. Or a write failed: in the question, or in the last
--- frame
+-- the reason why the loop ends after it created an enclave of these parts and answered the call,
+-- with its input and output since: its pages were requested, and then a frame was not that of the
+-- next page, or a read failed within it; or a write failed, in the request or in the last frame
 abbrev pub StopsMeasuring : ServeFault → Create → List ℕ → List ℕ → Option (List ℕ) → Type 0
 StopsMeasuring (faults.Refused NotUnderstood) parts read rest after = StopsAtPage parts read after
     × (rest ≡ question_of parts ++ end_bytes NotUnderstood)
@@ -77,8 +77,9 @@ StopsMeasuring faults.Write parts read rest after =
     ⊎ (StopsAtPage parts read after
     × BreaksOff rest (question_of parts) (end_bytes NotUnderstood))
 
--- why the loop ends at a trap that was read, and what was read and written for it. A write failed
--- in the answer. Or it was answered, and the loop ends as the enclave that it made is measured
+-- the reason why the loop ends at a trap that was read, with its input and output for that trap: a
+-- write failed in the answer; or the trap was answered, and the loop ends while it measures the new
+-- enclave
 abbrev pub StopsTrap : ServeFault → MonitorState → Trap → List ℕ → List ℕ → Option (List ℕ)
     → Type 0
 StopsTrap fault s trap read rest after =
@@ -87,11 +88,11 @@ StopsTrap fault s trap read rest after =
     ⊎ ((parts : Create) × (answered more : List ℕ) × AnswersMade s trap parts answered
     × StopsMeasuring fault parts read more after × (rest ≡ answered ++ more))
 
--- the bytes of an answer say what becomes of register sets, and the control words that are given
+-- the bytes of an answer contain the changes of register sets and the given control words
 abbrev pub Says : List ℕ → SetChanges → Option ControlWords → Type 0
 Says answered changes given = (said_changes answered ≡ changes) × (said_words answered ≡ given)
 
--- a trap was served and answered, or the loop ends, and why
+-- a trap was served and answered, or the loop ends for a reason
 abbrev pub Serves : Result (Unit {0}) ServeFault → Trap → MonitorState → MonitorState
     → Option (List ℕ) → Option (List ℕ) → Option (List ℕ) → Option (List ℕ) → Type 0
 Serves (Ok done) trap old new before after held holds =
@@ -104,8 +105,7 @@ Serves (Err fault) trap old new before after held holds =
     (read rest : List ℕ) × StopsTrap fault old trap read rest after
     × Consumes before after read × Appends held holds rest
 
--- a call was answered, with the state that is then, in which an enclave that it made has some
--- digest
+-- a call was answered, and the monitor is now in a state in which a new enclave has some digest
 pub record CallAnswered (old now : MonitorState) (trap : Trap) (answer : Answer)
     (answered : List ℕ) : Type 0 where
   pub changes : SetChanges
@@ -119,7 +119,7 @@ pub record CallAnswered (old now : MonitorState) (trap : Trap) (answer : Answer)
   pub awake : AreAwake now
   pub layout : now.table.layout ≡ old.table.layout
 
--- so it was, and the answer was written; or the loop ends
+-- a call was answered and the answer written; or the loop ends
 abbrev pub AnswersFirst : Result Answer ServeFault → Trap → MonitorState → MonitorState
     → Option (List ℕ) → Option (List ℕ) → Type 0
 AnswersFirst (Ok answer) trap old now held holds = (answered : List ℕ)
@@ -127,8 +127,7 @@ AnswersFirst (Ok answer) trap old now held holds = (answered : List ℕ)
 AnswersFirst (Err fault) trap old now held holds = (before : Option (List ℕ))
     → Serves (Err fault) trap old now before before held holds
 
--- the pages of an enclave that was made were asked for and read, and it has their digest; or the
--- loop ends
+-- the pages of a new enclave were requested and read, and it has their digest; or the loop ends
 abbrev pub MeasuresMade : Result (Unit {0}) ServeFault → Create → ℕ → MonitorState → MonitorState
     → Option (List ℕ) → Option (List ℕ) → Option (List ℕ) → Option (List ℕ) → Type 0
 MeasuresMade (Ok done) parts id old new before after held holds =

@@ -1,12 +1,12 @@
--- The table of control words: with which an enclave runs.
+-- The control words with which an enclave runs.
 use Rattle.std.specs.Prelude.{ℕ, bit_and, bit_or}
 use Rattle.trap_server.specs.declared.host_words.HostWords.{HostWords}
 use Rattle.trap_server.specs.declared.words.ControlWords.{ControlWords}
 
--- of mstatus: UXL, bits 33:32, is 2, which says 64 bits, and registers of floating point are open:
--- FS, bits 14:13, is 1, which says Initial. The hart makes it 3, Dirty, once one of them changes.
--- In a hart that has none of them it reads zero. Interrupts are off, bytes in little-endian order,
--- vectors and extensions off
+-- in mstatus: UXL, bits 33:32, is 2, for 64 bits, and floating point is enabled: FS, bits 14:13, is
+-- 1, Initial. The hart sets it to 3, Dirty, when a floating-point register changes; without
+-- floating point it reads zero. Interrupts are off, data is little-endian, and vectors and
+-- extensions are off
 abbrev pub with_floats : ℕ
 with_floats = 0x200002000
 
@@ -18,14 +18,13 @@ monitors_interrupts = 0x88
 abbrev pub hosts_interrupts : ℕ
 hosts_interrupts = 0x222
 
--- of the counters that user mode reads the time (TM, bit 1)
+-- in scounteren: user mode may read the time (TM, bit 1)
 abbrev pub time : ℕ
 time = 2
 
--- an enclave runs in user mode of 64 bits with no table of pages. It computes in floating point,
--- and every trap goes to machine mode. The monitor's interrupts are enabled, and those of the
--- host's that its host lets in; so they stop it. It reads the time where its host lets user mode
--- read it
+-- an enclave runs in 64-bit user mode without address translation. It may use floating point, and
+-- every trap goes to machine mode. The monitor's interrupts, and those of the host's that the host
+-- enables, stop it. It may read the time iff the host lets user mode read it
 abbrev pub enclave_words : HostWords → ControlWords
 enclave_words host = record {
   status = with_floats;

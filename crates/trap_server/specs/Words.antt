@@ -1,4 +1,4 @@
--- Words of 64 bits as bytes, the lowest first.
+-- Little-endian 64-bit words.
 use Rattle.std.specs.Prelude.{ℕ, ◌*◌, List, [], ◌∷◌, ◌++◌, drop}
 use Rattle.byteorder.specs.Endian.{little_bytes, little_number}
 
@@ -11,8 +11,8 @@ abbrev pub bytes_of : List ℕ → List ℕ
 bytes_of [] = []
 bytes_of (word ∷ words) = little_bytes 8 word ++ bytes_of words
 
--- the tag of a platform: the word `platform` in ASCII, the first letter in the lowest byte, as each
--- tag
+-- the tag of a platform: `platform` in ASCII, with the first letter in the lowest byte, like all
+-- tags
 abbrev pub platform_tag : ℕ
 platform_tag = 0x6d726f6674616c70
 
@@ -20,7 +20,7 @@ platform_tag = 0x6d726f6674616c70
 abbrev pub call_tag : ℕ
 call_tag = 0x6c6c6163
 
--- the tag of every other trap, which stops an enclave: `stop`
+-- the tag of any other trap, which stops an enclave: `stop`
 abbrev pub stop_tag : ℕ
 stop_tag = 0x706f7473
 
@@ -32,7 +32,7 @@ page_tag = 0x65676170
 abbrev pub answer_tag : ℕ
 answer_tag = 0x726577736e61
 
--- the tag of what asks for a page: `measure`
+-- the tag of a request for pages: `measure`
 abbrev pub measure_tag : ℕ
 measure_tag = 0x6572757361656d
 

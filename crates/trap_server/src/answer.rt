@@ -1,4 +1,4 @@
-//! The frame of an answer: with what a hart goes on, and the lists of entries that are new.
+//! The frame of an answer: the state in which a hart goes on, and the new lists of entries.
 
 ghost use Rattle.std.specs.Prelude.{◌≡◌, ◌<◌, ◌≤◌, ◌+◌, ◌-◌, ◌*◌, ◌++◌, length, take, replicate, IfSome};
 ghost use Rattle.monitor_core.specs.Answers.{world_number};
@@ -11,14 +11,14 @@ use monitor_core::{ChangeKind, SetChange, SetChanges};
 use pmp_encoding::{Entry, PageRange};
 use sbi_decode::World;
 
-/// Which lists of entries an answer has: those of the worlds whose views changed. Each other world keeps the list that it has.
+/// The lists of entries in an answer: those of the worlds whose views changed. Each other world keeps its list.
 #[derive(Clone, Copy, Debug, PartialEq, Eq)]
 pub enum NewLists {
-    /// None.
+    /// No list.
     Nothing,
-    /// That of the host: at boot, and after a destruction.
+    /// The list of the host: at boot, and after a destruction.
     Host,
-    /// That of the host, and after it that of the enclave that was made, whose id is the value of the answer.
+    /// The list of the host, followed by that of the new enclave, whose id is the value of the answer.
     HostAndMade,
 }
 
@@ -27,25 +27,25 @@ pub enum NewLists {
 pub struct Head {
     /// The hart that goes on.
     pub hart: u8,
-    /// The world that runs there then.
+    /// The world that runs there next.
     pub world: World,
-    /// The error that the call was answered with, in two's complement; 0 where there was none.
+    /// The status of the call in two's complement; 0 if there was no error or no call.
     pub status: u64,
-    /// The value of it.
+    /// The value of the call.
     pub value: u64,
-    /// How many entries the world that goes on has.
+    /// The number of entries of the world that goes on.
     pub used: u64,
-    /// The pages that are made zero before any hart goes on.
+    /// The pages to zero before any hart goes on.
     pub zero: Option<PageRange>,
-    /// The other harts, which run the host and load its list before they go on.
+    /// The other harts, which run the host and must load its list before they go on.
     pub woken: [bool; 4],
-    /// Which lists come after the changes of register sets.
+    /// The lists after the changes of register sets.
     pub lists: NewLists,
-    /// The control words that come after the lists.
+    /// The control words after the lists.
     pub given: Option<ControlWords>,
 }
 
-/// How many lists an answer has.
+/// The number of lists in an answer.
 fn list_count(lists: NewLists) -> u64
     ensures { result ≡ list_count lists }
 {
@@ -56,7 +56,7 @@ fn list_count(lists: NewLists) -> u64
     }
 }
 
-/// How many control words an answer has.
+/// The number of control words in an answer.
 fn control_count(given: &Option<ControlWords>) -> u64
     ensures { result ≡ control_count given.now }
 {
@@ -66,7 +66,7 @@ fn control_count(given: &Option<ControlWords>) -> u64
     }
 }
 
-/// The number of a world: 0 is the host.
+/// Returns the number of a world: 0 is the host.
 fn world_number(world: World) -> u64
     ensures { result ≡ world_number world }
 {
@@ -76,7 +76,7 @@ fn world_number(world: World) -> u64
     }
 }
 
-/// The word whose bit h is of hart h.
+/// Returns the word whose bit h is that of hart h.
 fn wake_word(woken: &[bool; 4]) -> u64
     ensures { result ≡ wake_word woken.now }
 {
@@ -86,7 +86,7 @@ fn wake_word(woken: &[bool; 4]) -> u64
         + 8 * u64::from(woken[3])
 }
 
-/// The pages, or none from page 0 on.
+/// Returns the range of pages, which is empty from page 0 on if there is none.
 fn pages_of(zero: Option<PageRange>) -> PageRange
     ensures { result ≡ pages_of zero }
 {
@@ -115,7 +115,7 @@ fn put_head(frame: &mut AnswerBytes, head: &Head)
     put_word(frame, 10, control_count(&head.given));
 }
 
-/// The number of a kind of change.
+/// Returns the number of a kind of change.
 fn kind_number(kind: ChangeKind) -> u64
     ensures { result ≡ kind_number kind }
 {
@@ -128,7 +128,7 @@ fn kind_number(kind: ChangeKind) -> u64
     }
 }
 
-/// Writes what becomes of a register set, from a word on.
+/// Writes the change of a register set, from word `from` on.
 #[inline(always)]
 fn put_change(frame: &mut AnswerBytes, from: usize, change: &SetChange)
     requires { from + 4 ≤ 178 }
@@ -142,7 +142,7 @@ fn put_change(frame: &mut AnswerBytes, from: usize, change: &SetChange)
     put_word(frame, from + 3, change.second);
 }
 
-/// Writes what becomes of register sets after the head.
+/// Writes the changes of register sets after the head.
 #[inline(always)]
 fn put_changes(frame: &mut AnswerBytes, changes: &SetChanges)
     ensures bytes { take 184 frame.new ≡ take 88 frame.old ++ changes_bytes changes.now }
@@ -155,7 +155,7 @@ fn put_changes(frame: &mut AnswerBytes, changes: &SetChanges)
     put_change(frame, 19, &changes.third);
 }
 
-/// The configuration byte of entry i, and zero past the entries.
+/// Returns the configuration byte of entry i, or zero after the last entry.
 fn listed_cfg(entries: &[Entry], i: usize) -> u8
     ensures { result ≡ listed_cfg entries.now i }
 {
@@ -166,7 +166,7 @@ fn listed_cfg(entries: &[Entry], i: usize) -> u8
     cfg
 }
 
-/// The address register of entry i, and zero past the entries.
+/// Returns the address register of entry i, or zero after the last entry.
 fn listed_address(entries: &[Entry], i: usize) -> u64
     ensures { result ≡ listed_address entries.now i }
 {
@@ -177,7 +177,7 @@ fn listed_address(entries: &[Entry], i: usize) -> u64
     address
 }
 
-/// Makes the bytes from one on and before another zero. Those before them stay.
+/// Zeroes the bytes from `from` to `end`. The bytes before them do not change.
 fn clear(frame: &mut AnswerBytes, from: usize, end: usize)
     requires order { from ≤ end }
     requires inside { end ≤ 1424 }
@@ -186,8 +186,8 @@ fn clear(frame: &mut AnswerBytes, from: usize, end: usize)
     frame[from..end].fill(0);
 }
 
-/// Writes the configuration bytes of 64 entries from a byte on, zero past the entries. As words they are pmpcfg0, pmpcfg2, ..
-/// pmpcfg14.
+/// Writes the configuration bytes of 64 entries from byte `from` on, zero after the last entry. As words they are
+/// pmpcfg0, pmpcfg2, .. pmpcfg14.
 fn put_configuration(frame: &mut AnswerBytes, from: usize, entries: &[Entry])
     requires few { length entries.now ≤ 64 }
     requires inside { from + 64 ≤ 1424 }
@@ -199,7 +199,7 @@ fn put_configuration(frame: &mut AnswerBytes, from: usize, entries: &[Entry])
     }
 }
 
-/// Writes the address registers of 64 entries from a word on, zero past the entries.
+/// Writes the address registers of 64 entries from word `from` on, zero after the last entry.
 fn put_addresses(frame: &mut AnswerBytes, from: usize, entries: &[Entry])
     requires few { length entries.now ≤ 64 }
     requires inside { from + 64 ≤ 178 }
@@ -212,7 +212,7 @@ fn put_addresses(frame: &mut AnswerBytes, from: usize, entries: &[Entry])
     clear(frame, 8 * from + 8 * entries.len(), 8 * from + 512);
 }
 
-/// Writes the front of the frame, with what a hart goes on, and what becomes of register sets.
+/// Writes the front of the frame: the state in which a hart goes on, and the changes of register sets.
 #[inline(always)]
 pub fn put_front(frame: &mut AnswerBytes, head: &Head, changes: &SetChanges)
     ensures bytes { take 184 frame.new ≡ front_bytes head.now changes.now }
@@ -224,7 +224,7 @@ pub fn put_front(frame: &mut AnswerBytes, head: &Head, changes: &SetChanges)
     put_changes(frame, changes);
 }
 
-/// Writes control words from a word on, in their order.
+/// Writes control words in their order, from word `from` on.
 #[inline(always)]
 fn put_control(frame: &mut AnswerBytes, from: usize, control: &ControlWords)
     requires { from + 9 ≤ 178 }
@@ -243,7 +243,7 @@ fn put_control(frame: &mut AnswerBytes, from: usize, control: &ControlWords)
     put_word(frame, from + 8, control.mode);
 }
 
-/// Writes the control words that are given from a word on, and says at which byte they end.
+/// Writes the given control words, if any, from word `from` on, and returns the byte at which they end.
 #[inline(always)]
 pub fn put_given(frame: &mut AnswerBytes, from: usize, given: &Option<ControlWords>) -> usize
     requires { from + 9 ≤ 178 }
@@ -260,7 +260,7 @@ pub fn put_given(frame: &mut AnswerBytes, from: usize, given: &Option<ControlWor
     }
 }
 
-/// Writes a list of entries from a word on, at most 64. It is not inlined: few answers have one.
+/// Writes a list of at most 64 entries from word `from` on. Not inlined, because few answers contain a list.
 #[inline(never)]
 pub fn put_list(frame: &mut AnswerBytes, from: usize, entries: &[Entry])
     requires few { length entries.now ≤ 64 }

@@ -1,4 +1,4 @@
-//! The last frame, which says why nothing more is served.
+//! The last frame, which tells why the loop ends.
 
 ghost use Rattle.std.specs.Prelude.{◌≡◌};
 ghost use Rattle.trap_server.specs.EndFrames.{end_bytes, reason_of, detail_of};
@@ -6,21 +6,21 @@ ghost use Rattle.trap_server.specs.EndFrames.{end_bytes, reason_of, detail_of};
 use crate::frame::{ShortBytes, TAG_END, three_words};
 use platforms::PlatformFault;
 
-/// Why nothing more is served.
+/// The reason why the loop ends.
 #[derive(Clone, Copy, Debug, PartialEq, Eq)]
 pub enum EndReason {
-    /// A frame is not understood.
+    /// A frame is invalid.
     NotUnderstood,
-    /// The numbers of the first frame are no platform.
+    /// The numbers of the first frame are not a valid platform.
     Platform(PlatformFault),
-    /// The host's view on the platform needs that many entries, more than a hart has.
+    /// The host's view of the platform needs this many entries, more than a hart has.
     NeedsEntries(u64),
-    /// Memory was refused at boot.
+    /// An allocation failed at boot.
     Memory,
 }
 
 impl EndReason {
-    /// Its number in the frame.
+    /// Returns the number of the reason in the frame.
     fn reason(self) -> u64
         ensures { result ≡ reason_of self }
     {
@@ -32,7 +32,7 @@ impl EndReason {
         }
     }
 
-    /// What goes with it: the number of the fault, or of entries.
+    /// Returns the detail of the reason: the number of the fault, or of entries.
     fn detail(self) -> u64
         ensures { result ≡ detail_of self }
     {
@@ -44,7 +44,7 @@ impl EndReason {
     }
 }
 
-/// The last frame.
+/// Returns the last frame.
 #[inline(never)]
 pub fn end_frame(refusal: EndReason) -> ShortBytes
     ensures { result ≡ end_bytes refusal }

@@ -1,4 +1,4 @@
-//! Why the loop ended before its input did.
+//! Reasons why the loop ended before its input did.
 
 ghost use Rattle.std.specs.Prelude.{ℕ};
 ghost use Rattle.trap_server.specs.Ends.{CountsRead, CountsWrite, EndsAs, FrameRead, FrameWrite, Refuses};
@@ -6,18 +6,18 @@ ghost use Rattle.trap_server.specs.Ends.{CountsRead, CountsWrite, EndsAs, FrameR
 use crate::{EndReason, FrameFault, end_frame};
 use text_lines::{Sink, write_whole};
 
-/// Why the loop ended before its input did.
+/// The reason why the loop ended before its input did.
 #[derive(Clone, Copy, Debug, PartialEq, Eq)]
 pub enum ServeFault {
-    /// The last frame that was written says why.
+    /// The last frame written contains the reason.
     Refused(EndReason),
     /// The source failed.
     Read,
-    /// The sink failed, or took none of some bytes.
+    /// The sink failed, or accepted none of the bytes of a write.
     Write,
 }
 
-/// Writes the last frame, and gives the fault that the loop ends with.
+/// Writes the last frame, and returns the fault with which the loop ends.
 pub(crate) fn refuse<W: Sink>(sink: &mut W, refusal: EndReason) -> ServeFault
     ensures last { Refuses result refusal (W.contents sink.old) (W.contents sink.new) }
     ensures reads { (n : ℕ) → CountsRead result n n }
@@ -30,7 +30,7 @@ pub(crate) fn refuse<W: Sink>(sink: &mut W, refusal: EndReason) -> ServeFault
     }
 }
 
-/// The fault that the loop ends with, where a frame was not read or not written. What is not understood is answered.
+/// Returns the fault with which the loop ends after a failed frame. An invalid frame is answered with the last frame.
 pub(crate) fn end<W: Sink>(sink: &mut W, fault: FrameFault) -> ServeFault
     ensures last { EndsAs result fault (W.contents sink.old) (W.contents sink.new) }
     ensures reads { (before after : ℕ) → FrameRead fault before after

@@ -6,7 +6,7 @@ ghost use Rattle.trap_server.specs.Words.{bytes_of, word_at};
 
 use byteorder::{ByteOrder, LittleEndian};
 
-/// A tag is up to eight letters, the first in the lowest byte: `platform`.
+/// A tag is up to eight letters, the first of them in the lowest byte: `platform`.
 pub(crate) const TAG_PLATFORM: u64 = 0x6d72_6f66_7461_6c70;
 
 /// `call`
@@ -27,8 +27,8 @@ pub(crate) const TAG_MEASURE: u64 = 0x0065_7275_7361_656d;
 /// `end`
 pub(crate) const TAG_END: u64 = 0x0064_6e65;
 
-/// The bytes of an answer: eleven words, three changes of register sets, at most two lists of entries, and at most nine control
-/// words.
+/// The bytes of an answer: eleven words, three changes of register sets, at most two lists of entries, and at most nine
+/// control words.
 pub type AnswerBytes = [u8; 1424];
 
 /// The bytes of a trap: its tag, the hart, a0 to a7, `mie` and `scounteren`.
@@ -37,7 +37,7 @@ pub type TrapBytes = [u8; 96];
 /// The bytes of a frame of three words.
 pub type ShortBytes = [u8; 24];
 
-/// Word k of some bytes.
+/// Returns word k.
 #[inline(always)]
 pub(crate) fn word(bytes: &[u8], k: usize) -> u64
     requires { 8 * k + 8 ≤ length bytes.now }
@@ -46,7 +46,7 @@ pub(crate) fn word(bytes: &[u8], k: usize) -> u64
     LittleEndian::read_u64(&bytes[8 * k..])
 }
 
-/// Writes word k. The bytes before it stay.
+/// Writes word k. The bytes before it do not change.
 #[inline(always)]
 pub(crate) fn put_word(bytes: &mut [u8], k: usize, value: u64)
     requires { 8 * k + 8 ≤ length bytes.old }
@@ -57,7 +57,7 @@ pub(crate) fn put_word(bytes: &mut [u8], k: usize, value: u64)
     LittleEndian::write_u64(&mut bytes[8 * k..], value);
 }
 
-/// A frame of three words.
+/// Returns a frame of three words.
 #[inline(always)]
 pub(crate) fn three_words(first: u64, second: u64, third: u64) -> ShortBytes
     ensures { result ≡ bytes_of (first ∷ (second ∷ (third ∷ []))) }

@@ -1,11 +1,12 @@
-//! A frame is read whole.
+//! Reads whole frames.
 
 ghost use Rattle.trap_server.specs.FrameBytes.{Fills};
 ghost use Rattle.text_lines.specs.Streams.{CountsFailure};
 
 use text_lines::{DeviceFault, Source};
 
-/// Fills a buffer from the source, and says how many bytes came: fewer than there is room for at the end of the input alone.
+/// Fills a buffer from the source and returns the number of bytes read, which is less than the buffer's size only at
+/// the end of the input.
 pub(crate) fn read_whole<R: Source>(source: &mut R, buffer: &mut [u8]) -> Result<usize, DeviceFault>
     ensures bytes { Fills result buffer.old buffer.new (R.remaining source.old)
         (R.remaining source.new) }

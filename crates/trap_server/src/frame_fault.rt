@@ -1,17 +1,17 @@
-//! Why a frame is not read.
+//! Reasons why a frame cannot be read or written.
 
 use thiserror::Error;
 
-/// Why a frame is not read, or none is written.
+/// The reason why a frame cannot be read or written.
 #[derive(Clone, Copy, Debug, PartialEq, Eq, Error)]
 pub enum FrameFault {
     /// The source failed.
     #[error("cannot read")]
     Read,
-    /// The sink failed, or took none of some bytes.
+    /// The sink failed, or accepted none of the bytes of a write.
     #[error("cannot write")]
     Write,
-    /// The frame has another tag, or a number that it may not have; or the input ends within it.
+    /// The frame has another tag or an invalid number, or the input ends within it.
     #[error("not understood")]
     NotUnderstood,
 }

@@ -1,4 +1,4 @@
-//! The laws of the traps that were served.
+//! Laws of the traps that were served.
 
 ghost use Rattle.std.specs.Prelude.{ℕ, List};
 ghost use Rattle.platforms.specs.Platform.{IsLayout, PlatformLayout};
@@ -8,20 +8,20 @@ ghost use Rattle.trap_server.specs.Firmware.{FirmwareHeadline};
 ghost use Rattle.trap_server.specs.Runs.{ServesTraps};
 ghost use Rattle.trap_server.specs.Service.{FramesTell};
 
-/// The frame of a trap has all that decides how it is served: so what was served of the registers that the loop knows was served
-/// of those that the world had.
+/// The frame of a trap determines how the trap is served: serving the registers in the frame is serving those that the
+/// world had.
 pub fn frames_law()
     ensures { FramesTell }
 {}
 
-/// After any traps that were served and answered, on every platform that keeps its rules: the table is sound, and each enclave
-/// that is Running runs on just one hart.
-/// The list that was answered last of each world that is there means what the world may do, and no list of entries that does
-/// is shorter; a hart has that many. The list that each hart loaded last is such a list of its world. Each creation and
-/// destruction was refused for want of entries exactly where a view after it needs more, want of memory aside. Pages that were
-/// asked for are memory and not the monitor's, and were read once; pages that were to be made zero are those of the enclave
-/// that was destroyed. Whatever the register sets are: after the changes that an answer has each world has its own registers.
-/// Where a host enters an enclave the answer gives the enclave's control words, and no other answer gives any.
+/// After any traps that were served and answered, on every valid platform: the table is sound, and each Running enclave
+/// runs on exactly one hart. The list last answered for each existing world means what the world may do, with the
+/// fewest entries, and fits a hart. The list last loaded by each hart is such a list of its world. Each creation and
+/// destruction was refused for lack of entries iff a resulting view needs more than a hart has, unless an allocation
+/// failed. Pages that were requested are memory and not the monitor's, and were read once; pages that were to be zeroed
+/// are those of the enclave that was destroyed. Whatever the register sets contain, each world has its own registers
+/// after the changes of an answer. An answer contains the enclave's control words if a host enters an enclave, and
+/// otherwise none.
 pub fn firmware_law()
     ensures { (layout : PlatformLayout) (opened read written : List ℕ) (s : MonitorState)
         (served : ServesTraps (opening_monitor layout) read written s)

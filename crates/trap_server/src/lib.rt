@@ -1,17 +1,18 @@
-//! The loop that serves the traps of a hart.
+//! Serves the traps of a board's harts: reads each trap as a frame and writes the monitor's answer as a frame.
 //!
-//! It works between two devices. What comes from the first are frames: the platform, then the traps of its harts one after
-//! another. What goes to the second is, for each trap, with what the hart goes on: the answer, the world, what becomes of
-//! register sets, the pages to make zero, which other harts are to load the host's entries, the entries of each world whose
-//! view changed, and the control words of an enclave that is entered. `docs/FORMATS.md` has the layouts, under "Frames".
+//! The source delivers the platform and then the harts' traps one after another. For each trap, the sink receives an
+//! answer that tells the hart how to go on: the status and value of the call, the world, the changes of register sets,
+//! the pages to zero, the other harts that must load the host's entries, the entries of each world whose view changed,
+//! and the control words of an enclave that is entered. `docs/formats/calls.md`, "Frames", specifies the layouts.
 //!
-//! Integer registers stay with the harts: a set for the host of each hart and one for each enclave. A trap has those of a
-//! call alone, a0 to a7, and an answer says what becomes of which set. What is proved of it holds whatever the sets are.
+//! Integer registers stay with the harts: one set for the host of each hart and one for each enclave. A trap contains
+//! only the registers of a call, a0 to a7, and an answer describes the changes of sets. The proofs hold whatever the
+//! sets contain.
 //!
-//! For the layer above: each trap that is served is one step of the monitor (`monitor_core`), and its answer is written
-//! before the next is read. After the answer to a creation that was done, the pages of the new enclave are read once, by
-//! rising address, and measured as they come; nothing else is ever asked for. A frame that is not understood ends the loop
-//! with a frame of its own, and changes nothing.
+//! For the layer above: each trap served is one step of the monitor (`monitor_core`), and its answer is written before
+//! the next trap is read. After the answer to a successful creation, the pages of the new enclave are read once, by
+//! rising address, and measured as they arrive; nothing else is ever requested. An invalid frame ends the loop with a
+//! frame of its own and changes nothing.
 //!
 //! ```text
 //! let served = serve_traps(alloc, &mut source, &mut sink);
@@ -19,13 +20,14 @@
 //!
 //! # Control registers, by the world that runs
 //!
-//! Beside the PMP entries these registers decide what a world can do: whether its addresses go through a table of pages,
-//! how wide its registers are, whose handler has its traps, which interrupts reach it. A host writes them as it likes; an
-//! enclave runs in user mode and can write none. A host's words stay with its hart, which keeps them while an enclave runs
-//! there. An enclave has those of a table, [`HostWords::of_enclave`]: the answer gives them where a host enters it.
+//! Besides the PMP entries, these registers decide what a world can do: whether its addresses are translated, how wide
+//! its registers are, which handler takes its traps, and which interrupts reach it. A host writes them freely; an
+//! enclave runs in user mode and cannot write any. A host's words stay with its hart, which keeps them while an enclave
+//! runs there. An enclave's words are fixed by a table, [`HostWords::of_enclave`], and the answer contains them when a
+//! host enters the enclave.
 //!
-//! For the layer above: a hart keeps the words that its host has where an answer gives others, and goes on with the kept ones
-//! where the host goes on after an enclave. So no word of one world is another's ([`control_words_law`]). Nothing here takes
+//! For the layer above: a hart saves its host's words when an answer contains others, and restores them when the host
+//! goes on after an enclave. Hence no world receives a word of another ([`control_words_law`]). Nothing here allocates
 //! memory.
 //!
 //! ```
@@ -34,13 +36,13 @@
 //!
 //! # Frames between the harts of a board and the monitor
 //!
-//! A frame is words of 64 bits, the lowest byte first. Its first word is a tag, which says what the others are;
-//! `docs/FORMATS.md` has the layouts, under "Frames". Read are the platform ([`read_platform`]), then the traps of its harts
-//! ([`read_trap`]), and the pages that are asked for ([`digest_of`]). Written are answers ([`put_front`], [`put_list`],
-//! [`put_given`]), questions for pages, and why the end has come ([`end_frame`]).
+//! A frame consists of little-endian 64-bit words. Its first word is a tag that determines the meaning of the others;
+//! `docs/formats/calls.md`, "Frames", specifies the layouts. The loop reads the platform ([`read_platform`]), then the
+//! traps of its harts ([`read_trap`]), and the pages that it requests ([`digest_of`]). It writes answers
+//! ([`put_front`], [`put_list`], [`put_given`]), requests for pages, and the reason for its end ([`end_frame`]).
 //!
-//! For the layer above: what is read is consumed whole, and what is not a frame is distinct from a failed device. Nothing here
-//! takes memory.
+//! For the layer above: whatever is read is consumed whole, and an invalid frame is distinct from a failed device.
+//! Nothing here allocates memory.
 #![tactic(auto)]
 
 mod answer;

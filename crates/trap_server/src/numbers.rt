@@ -1,4 +1,4 @@
-//! The number that says how the loop ended.
+//! The number that tells the firmware how the loop ended.
 
 ghost use Rattle.std.specs.Prelude.{◌≡◌};
 ghost use Rattle.trap_server.specs.Numbers.{served_number};

@@ -1,4 +1,4 @@
-//! The measurement of the pages of a creation, as they come.
+//! Measures the pages of a new enclave as they arrive.
 
 ghost use Rattle.std.specs.Prelude.{◌≡◌, ◌+◌, ◌≤◌, ◌<◌, ◌^◌, MatchResult};
 ghost use Rattle.text_lines.specs.Writings.{writing, Prints};
@@ -12,17 +12,17 @@ use crate::frame_fault::FrameFault;
 use measurement::{Create, Measure};
 use text_lines::{Sink, Source, write_whole};
 
-/// The bytes of the frame of a page: its tag, its number, and its own bytes.
+/// The size of a page frame: its tag, its number, and the bytes of the page.
 const PAGE_BYTES: usize = 4112;
 
-/// The question for `count` pages from one on.
+/// Returns the request for `count` pages from `first` on.
 fn question(first: u64, count: u64) -> ShortBytes
     ensures { result ≡ question_bytes first count }
 {
     three_words(TAG_MEASURE, first, count)
 }
 
-/// Reads the frame of a page.
+/// Reads a page frame.
 #[inline(never)]
 fn read_page<R: Source>(source: &mut R, page: u64, bytes: &mut [u8; 4096]) -> Result<(), FrameFault>
     ensures page { ReadsPage result page bytes.new (R.remaining source.old)
@@ -46,7 +46,8 @@ fn read_page<R: Source>(source: &mut R, page: u64, bytes: &mut [u8; 4096]) -> Re
     Ok(())
 }
 
-/// The digest of an enclave of these parts. Its private pages are asked for, and read once, by rising address.
+/// Returns the digest of an enclave with these parts. Requests its private pages, and reads each once, by rising
+/// address.
 #[inline(never)]
 pub fn digest_of<R: Source, W: Sink>(
     source: &mut R,

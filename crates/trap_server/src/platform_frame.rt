@@ -19,13 +19,13 @@ use platforms::{Platform, PlatformFault};
 use pmp_encoding::Perm;
 use text_lines::Source;
 
-/// The bytes of its frame: its tag, six numbers, and room for 32 ranges of memory and 32 devices.
+/// The size of the platform frame: its tag, six numbers, and room for 32 ranges of memory and 32 devices.
 const PLATFORM_BYTES: usize = 1336;
 
-/// How many ranges and devices there is room for.
+/// The maximal number of ranges, and of devices.
 const MOST: u64 = 32;
 
-/// The ranges of memory, two words each from word 7 on.
+/// Reads the ranges of memory, two words each, from word 7 on.
 #[tactic(auto, using(crate::proofs::Lengths::ram_length))]
 fn ram_in(bytes: &[u8; 1336], count: usize) -> ArrayVec<(u64, u64), 32>
     requires { count ≤ 32 }
@@ -38,7 +38,7 @@ fn ram_in(bytes: &[u8; 1336], count: usize) -> ArrayVec<(u64, u64), 32>
     ram
 }
 
-/// The permission of these bits: R is 1, W is 2, X is 4.
+/// Returns the permission with these bits: R is 1, W is 2, X is 4.
 fn perm_of(bits: u64) -> Option<Perm>
     ensures some { IfSome result (λ perm. bits_of perm ≡ bits) }
     ensures none { IfNone result ((perm : PermOf) → bits_of perm ≡ bits → ⊥) }
@@ -54,7 +54,7 @@ fn perm_of(bits: u64) -> Option<Perm>
     }
 }
 
-/// The devices, three words each from word 71 on, where each has a permission.
+/// Reads the devices, three words each, from word 71 on, if each has a valid permission.
 #[tactic(auto, using(crate::proofs::Lengths::devices_room))]
 fn devices_in(bytes: &[u8; 1336], count: usize) -> Option<ArrayVec<(u64, u64, Perm), 32>>
     requires { count ≤ 32 }
@@ -71,7 +71,7 @@ fn devices_in(bytes: &[u8; 1336], count: usize) -> Option<ArrayVec<(u64, u64, Pe
     Some(devices)
 }
 
-/// The same platform with this many harts.
+/// Sets the number of harts of a platform.
 fn with_harts(platform: Platform, harts: u64) -> Result<Platform, PlatformFault>
     ensures value { IfOk result (λ p. (0 < harts) × (harts ≤ 4)
         × (p ≡ record platform { harts = harts })) }
@@ -84,7 +84,7 @@ fn with_harts(platform: Platform, harts: u64) -> Result<Platform, PlatformFault>
     platform.with_harts(harts as u8)
 }
 
-/// The same platform with this many entries.
+/// Sets the number of entries of a platform.
 fn with_entries(platform: Platform, entries: u64) -> Result<Platform, PlatformFault>
     ensures limit { IfOk result (λ p. limit_number p.limit ≡ entries) }
     ensures others { IfOk result (λ p. p ≡ record platform { limit = p.limit }) }
@@ -97,7 +97,7 @@ fn with_entries(platform: Platform, entries: u64) -> Result<Platform, PlatformFa
     platform.with_entries(entries as u8)
 }
 
-/// The platform with the ranges of a frame.
+/// Reads the ranges of a platform from its frame.
 fn ranges_in(bytes: &[u8; 1336]) -> Result<Platform, EndReason>
     ensures few { IfOk result (λ _. AreFew bytes.now) }
     ensures ranges { IfOk result (λ p. HasRanges bytes.now p) }
@@ -121,7 +121,7 @@ fn ranges_in(bytes: &[u8; 1336]) -> Result<Platform, EndReason>
     }
 }
 
-/// The platform that a frame is of, or why it is of none.
+/// Decodes a platform frame.
 fn platform_in(bytes: &[u8; 1336]) -> Result<Platform, EndReason>
     ensures some { IfOk result (λ p. IsPlatformFrame bytes.now p) }
     ensures none { IfErr result (λ refusal. IsNoPlatform refusal bytes.now) }
@@ -143,7 +143,7 @@ fn platform_in(bytes: &[u8; 1336]) -> Result<Platform, EndReason>
     }
 }
 
-/// Reads the platform. Where the source did not fail, and the frame is of none, it says why.
+/// Reads the platform frame. If the source does not fail and the frame is invalid, returns the reason.
 #[inline(never)]
 pub fn read_platform<R: Source>(source: &mut R) -> Result<Result<Platform, EndReason>, FrameFault>
     ensures platform { ReadsPlatform result (R.remaining source.old) (R.remaining source.new) }

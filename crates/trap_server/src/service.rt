@@ -1,4 +1,4 @@
-//! How a trap is served, and its answer written.
+//! Serves one trap and writes its answer.
 
 ghost use Rattle.std.specs.Prelude.{◌≡◌, ◌<◌, ◌≤◌, ◌++◌, ℕ, List, Option, IfNone, IfSome, is_some, take};
 ghost use Rattle.sbi_decode.specs.Calls.{call_of};
@@ -27,13 +27,13 @@ use pmp_encoding::PageRange;
 use sbi_decode::{Call, Registers, decode};
 use text_lines::{Sink, Source, write_whole};
 
-/// What serves as the answer where there was no call.
+/// The placeholder answer for a trap that is not a call.
 pub(crate) const NOTHING: Answer = Answer {
     status: 0,
     value: 0,
 };
 
-/// Wakes a hart, and says whether it was marked.
+/// Wakes a hart and returns whether it was marked.
 fn take_mark(core: &mut Core, hart: u8) -> bool
     requires { hart < 4 }
     ensures mark { result ≡ (bare core.old).marked hart }
@@ -44,7 +44,7 @@ fn take_mark(core: &mut Core, hart: u8) -> bool
     is_marked
 }
 
-/// Each hart that is marked is woken: it is to load the host's entries.
+/// Wakes each marked hart, so that it loads the host's entries.
 fn wake_all(core: &mut Core) -> [bool; 4]
     ensures marks { result ≡ marks_of (bare core.old) }
     ensures state { bare core.new ≡ unmarked 4 (bare core.old) }
@@ -56,7 +56,7 @@ fn wake_all(core: &mut Core) -> [bool; 4]
     [first, second, third, fourth]
 }
 
-/// The status of an answer as a word, in two's complement.
+/// Returns the status of an answer as a word, in two's complement.
 fn status_word(answer: &Answer) -> u64
     ensures { result ≡ status_word answer.now.status }
 {
@@ -67,9 +67,9 @@ fn status_word(answer: &Answer) -> u64
     u64::MAX - (-1 - status) as u64
 }
 
-/// Puts the lists of entries that are new behind the front of an answer, which made an enclave of this id where its list is
-/// new, and behind them the control words that are given. It says at which byte they end. The place of the words is a number in
-/// each arm, so they are written by the word.
+/// Writes the new lists of entries after the front of an answer, and then the given control words; `id` is the new
+/// enclave if its list is new. Returns the byte at which they end. The position of the words is constant in each arm,
+/// so that they are written word by word.
 #[inline(always)]
 fn put_rest(
     frame: &mut AnswerBytes,
@@ -103,24 +103,24 @@ fn put_rest(
     }
 }
 
-/// What is answered, beside the world that goes on and what becomes of register sets.
+/// The contents of an answer except the world that goes on and the changes of register sets.
 #[derive(Clone, Copy)]
 pub(crate) struct Onward {
     /// The hart that goes on.
     pub(crate) hart: u8,
-    /// The answer to its call.
+    /// The answer to the call.
     pub(crate) answer: Answer,
-    /// The pages that are made zero before any hart goes on.
+    /// The pages to zero before any hart goes on.
     pub(crate) zero: Option<PageRange>,
-    /// The harts that load the host's list with it.
+    /// The other harts that load the host's list.
     pub(crate) woken: [bool; 4],
-    /// Which lists of entries are new.
+    /// The new lists of entries.
     pub(crate) lists: NewLists,
     /// The control words of an enclave that is entered.
     pub(crate) given: Option<ControlWords>,
 }
 
-/// Puts together the frame with which a hart goes on. It says where the frame ends.
+/// Assembles the frame with which a hart goes on, and returns the byte at which it ends.
 #[inline(always)]
 fn put_frame(frame: &mut AnswerBytes, core: &Core, onward: &Onward, changes: &SetChanges) -> usize
     requires hart { onward.now.hart < 4 }
@@ -148,7 +148,7 @@ fn put_frame(frame: &mut AnswerBytes, core: &Core, onward: &Onward, changes: &Se
     put_rest(frame, core, onward.lists, onward.answer.value, &head.given)
 }
 
-/// Writes with what a hart goes on, in a frame that is lent, and whose bytes before decide nothing.
+/// Writes the answer with which a hart goes on, using a borrowed frame whose previous contents do not matter.
 #[inline(always)]
 pub(crate) fn write_answer<W: Sink>(
     core: &Core,
@@ -177,7 +177,7 @@ pub(crate) fn write_answer<W: Sink>(
     }
 }
 
-/// Whether a call asks for a creation. No other has its parts put together to be looked at.
+/// Returns whether the call is a creation. Other calls do not have their parts decoded.
 #[inline(always)]
 fn is_creation(registers: &Registers) -> bool
     ensures { result ≡ is_some (asked_in (call_of registers.now)) }
@@ -185,8 +185,8 @@ fn is_creation(registers: &Registers) -> bool
     matches!(decode(registers), Ok(Call::Create { .. }))
 }
 
-/// Which lists are new after a call: the host's after a destruction, which leaves pages to be made zero, and two after a creation
-/// that was done.
+/// Returns the lists that are new after a call: the host's after a destruction, which leaves pages to zero, and two
+/// after a successful creation.
 #[inline(always)]
 fn new_lists(is_creation: bool, served: &Served) -> NewLists
     ensures { (asked : Option CreateParts) → is_creation ≡ is_some asked
@@ -201,7 +201,7 @@ fn new_lists(is_creation: bool, served: &Served) -> NewLists
     NewLists::Nothing
 }
 
-/// The parts of an enclave that a call made, if it made one. It is not inlined: creations alone need it.
+/// Returns the parts of the enclave that a call created, if any. Not inlined, because only creations need it.
 #[inline(never)]
 fn made_by(answer: &Answer, trap: &Trap) -> Option<Create>
     ensures some { IfSome result (λ parts.
@@ -212,8 +212,8 @@ fn made_by(answer: &Answer, trap: &Trap) -> Option<Create>
     answer.made(&trap.registers)
 }
 
-/// Gives an enclave that was made the digest of its pages, which are asked for and read. It is not inlined: no other call needs
-/// what it has on the stack.
+/// Requests and reads the pages of a new enclave and stores their digest. Not inlined, because no other call needs its
+/// stack.
 #[inline(never)]
 fn measure_made<R: Source, W: Sink>(
     core: &mut Core,
@@ -240,7 +240,7 @@ fn measure_made<R: Source, W: Sink>(
     }
 }
 
-/// Answers the call in the registers of a trap. An enclave that it makes has a digest that is lent, until its pages are measured.
+/// Answers the call of a trap. A new enclave has the borrowed digest until its pages are measured.
 #[inline(always)]
 fn answer_call<W: Sink>(
     core: &mut Core,
@@ -283,8 +283,8 @@ fn answer_call<W: Sink>(
     }
 }
 
-/// Serves the call in the registers of a trap. An enclave that it made is measured after the answer: so others may run their
-/// worlds meanwhile, to which its pages are closed by then.
+/// Serves the call of a trap. A new enclave is measured after the answer, so that the other harts may run their worlds
+/// meanwhile; its pages are closed to them by then.
 #[inline(always)]
 fn serve_call<R: Source, W: Sink>(
     core: &mut Core,
@@ -319,7 +319,7 @@ fn serve_call<R: Source, W: Sink>(
     measure_made(core, answer.value, &parts, source, sink)
 }
 
-/// Serves an interrupt: an enclave stops.
+/// Serves an interrupt, which stops an enclave.
 #[inline(always)]
 fn serve_stop<W: Sink>(
     core: &mut Core,

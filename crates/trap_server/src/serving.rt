@@ -1,4 +1,4 @@
-//! The traps of a reader, answered to a writer, as the firmware serves them.
+//! Serves traps between a reader and a writer of the standard library, as the firmware uses it.
 
 ghost use Rattle.std.specs.Prelude.{◌≡◌};
 ghost use Rattle.trap_server.specs.Numbers.{served_number};
@@ -11,7 +11,7 @@ use std::alloc::Global;
 use std::io::{Read, Write};
 use text_lines::Counted;
 
-/// Serves the traps of a reader, and returns how that ended.
+/// Serves the traps of a reader and returns how the loop ended.
 fn served_from<R: Read + Drop, W: Write + Drop>(
     alloc: Global,
     from: R,
@@ -24,7 +24,8 @@ fn served_from<R: Read + Drop, W: Write + Drop>(
     serve_traps(alloc, &mut source, &mut sink)
 }
 
-/// Serves the traps of a reader as [`serve_traps`] does, and returns the number that tells the firmware how that ended.
+/// Serves the traps of a reader as [`serve_traps`] does, and returns the number that tells the firmware how the loop
+/// ended.
 pub fn serve_on<R: Read + Drop, W: Write + Drop>(alloc: Global, from: R, to: W) -> i64
     ensures { EndsWith R.remaining W.contents from to served_number result }
 {

@@ -13,34 +13,34 @@ use crate::frame_fault::FrameFault;
 use sbi_decode::Registers;
 use text_lines::Source;
 
-/// The bytes of its frame.
+/// The size of a trap frame.
 const TRAP_BYTES: usize = 96;
 
-/// What happened to the world that runs on a hart.
+/// The event that happened to the world on a hart.
 #[derive(Clone, Copy)]
 pub enum TrapEvent {
-    /// It made a call.
+    /// The world made a call.
     Call,
-    /// It was interrupted, or did what an enclave may not: an enclave stops.
+    /// The world was interrupted or did what an enclave may not do; an enclave stops.
     Stop,
 }
 
-/// A trap of a hart, with the registers of a call, a0 to a7, and two control words of the world that ran there. Its other
-/// registers and control words stay with the hart.
+/// A trap of a hart, with the registers of a call, a0 to a7, and two control words of the world that ran there. All
+/// other registers and control words stay with the hart.
 #[derive(Clone, Copy)]
 pub struct Trap {
-    /// What happened.
+    /// The event.
     pub event: TrapEvent,
-    /// The hart on which it did, below the number of harts.
+    /// The hart, below the number of harts.
     pub hart: u8,
-    /// The registers as they were, of which a0 to a7 alone are known.
+    /// The registers, of which only a0 to a7 are known.
     pub registers: Registers,
-    /// What the control registers had of the words of a host. An enclave's are not looked at.
+    /// The host's control words. They are ignored if an enclave trapped.
     pub host: HostWords,
 }
 
 impl Trap {
-    /// One to read the first into.
+    /// Returns an initial value, to be overwritten by the first trap.
     pub(crate) fn new() -> Trap {
         Trap {
             event: TrapEvent::Stop,
@@ -54,7 +54,7 @@ impl Trap {
     }
 }
 
-/// Puts a0 to a7 in a frame, which are x10 to x17, into the registers of a trap.
+/// Copies a0 to a7, which are x10 to x17, from a frame to the registers of a trap.
 #[inline(always)]
 fn call_in(bytes: &TrapBytes, registers: &mut Registers)
     ensures { HasCall bytes.now registers.new }
@@ -64,7 +64,7 @@ fn call_in(bytes: &TrapBytes, registers: &mut Registers)
     }
 }
 
-/// What happened, by the tag.
+/// Returns the event that a tag stands for.
 fn event_in(tag: u64) -> Option<TrapEvent>
     ensures some { IfSome result (λ event. IsTagOf event tag) }
     ensures none { IfNone result ((event : EventOf) → IsTagOf event tag → ⊥) }
@@ -76,7 +76,7 @@ fn event_in(tag: u64) -> Option<TrapEvent>
     }
 }
 
-/// Puts the trap that a frame is of, on one of this many harts, into one that is lent, and says whether it is one.
+/// Decodes a trap frame, for a board with this many harts, into `trap`, and returns whether it is valid.
 #[inline(always)]
 fn trap_in(bytes: &TrapBytes, harts: u8, trap: &mut Trap) -> bool
     ensures trap { result ≡ true → IsTrapFrame bytes.now harts trap.new }
@@ -97,9 +97,9 @@ fn trap_in(bytes: &TrapBytes, harts: u8, trap: &mut Trap) -> bool
     true
 }
 
-/// Reads the next trap, on one of this many harts, into one that is lent, so that nothing of it is copied. It says whether
-/// there was one: there is none at the end of the input. Its bytes go into a frame that is lent too, and whose bytes before
-/// decide nothing: one of its own would be made zero first.
+/// Reads the next trap, for a board with this many harts, into `trap`, avoiding a copy, and returns whether there was
+/// one: there is none at the end of the input. The borrowed buffer `frame`, whose previous contents do not matter,
+/// saves zeroing a new one.
 #[inline(always)]
 pub fn read_trap<R: Source>(
     source: &mut R,

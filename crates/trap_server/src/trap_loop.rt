@@ -1,4 +1,4 @@
-//! The loop: a trap is read and served, and its answer written, before the next is read.
+//! The loop, which reads, serves and answers each trap before it reads the next.
 
 ghost use Rattle.std.specs.Prelude.{◌≡◌, ◌+◌, ◌≤◌, ◌<◌, ℕ, List, [], Ok, Option, IfErr, IfOk, MatchResult};
 ghost use Rattle.platforms.specs.Platform.{PlatformLayout};
@@ -39,7 +39,8 @@ fn boot_on<W: Sink>(
     }
 }
 
-/// The platform that comes first. It is on the heap, so that the stack has no copy of it while the monitor is made.
+/// Reads the platform, which comes first. It is on the heap so that the stack holds no copy of it while the monitor
+/// boots.
 #[inline(never)]
 fn platform_in<R: Source, W: Sink>(
     alloc: Global,
@@ -65,8 +66,8 @@ fn platform_in<R: Source, W: Sink>(
     }
 }
 
-/// Boots the monitor on the platform that comes first. It is inlined, so that the stack has one copy of the monitor less
-/// while it is made.
+/// Boots the monitor on the platform that comes first. Inlined, so that the stack holds one copy of the monitor less
+/// during boot.
 #[inline(always)]
 fn boot<R: Source, W: Sink>(alloc: Global, source: &mut R, sink: &mut W) -> Result<Core, ServeFault>
     ensures boots { Boots result (R.remaining source.old) (R.remaining source.new)
@@ -81,17 +82,17 @@ fn boot<R: Source, W: Sink>(alloc: Global, source: &mut R, sink: &mut W) -> Resu
     }
 }
 
-/// The harts but hart 0.
+/// Returns all harts except hart 0.
 fn others(harts: u8) -> [bool; 4]
     ensures { result ≡ others harts }
 {
     [false, harts > 1, harts > 2, harts > 3]
 }
 
-/// Says with which entries the harts of a monitor that is booted begin. Then serves the traps that come, until the input ends.
+/// Writes the entries with which the harts of a booted monitor begin, and then serves traps until the input ends.
 ///
-/// It is not inlined, so that its frames are not on the stack while the monitor boots. All that serves a trap is inlined into
-/// it: so the frames are known to lie at a multiple of eight, and are read and written by the word.
+/// Not inlined, so that its frames are not on the stack while the monitor boots. Everything that serves a trap is
+/// inlined into it, so that the frames are known to be aligned to eight bytes and are accessed word by word.
 #[inline(never)]
 fn serve_booted<R: Source, W: Sink>(
     core: &mut Core,
@@ -145,13 +146,13 @@ fn serve_booted<R: Source, W: Sink>(
     Err(refuse(sink, EndReason::NotUnderstood))
 }
 
-/// Boots the monitor on the platform that the source gives first, and says with which entries its harts begin. Then serves
-/// the traps that come after it, until the input ends.
+/// Boots the monitor on the platform that the source delivers first, and writes the entries with which its harts begin.
+/// Then serves the traps that follow until the input ends.
 ///
-/// It ends early where a frame is not understood, which is no frame of its place or one within which the input ends; where the
-/// first frame is of no platform, or the host's view on it needs more entries than there are; where memory is refused at boot;
-/// where a read or a write fails; and after 2^64 - 1 traps. After the last answer there is then a question for pages, where they
-/// were asked for, and the last frame, or a part of what was to come.
+/// The loop ends early if a frame is invalid or the input ends within it, if the first frame is not a valid platform,
+/// if the host's view of it needs too many entries, if an allocation fails at boot, if a read or a write fails, and
+/// after 2^64 - 1 traps. The last answer is then followed by a request for pages, if they were requested, and by the
+/// last frame, or by a part of these.
 pub fn serve_traps<R: Source, W: Sink>(
     alloc: Global,
     source: &mut R,

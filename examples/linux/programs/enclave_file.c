@@ -23,7 +23,7 @@ struct named {
     const char *name;
 };
 
-/* docs/FORMATS.md, "Calls of the monitor". */
+/* docs/formats/calls.md, "Calls of the monitor". */
 static const struct named refusals[] = {
     {PMPMON_NOT_SUPPORTED, "no call of the monitor"},
     {PMPMON_WRONG_WORLD, "the caller is not the host"},

@@ -1,4 +1,4 @@
-//! Entries in other orders than a planner's, after them the tree that the planner's certificate has.
+//! Checks entries in orders other than the planner's, followed by the tree of the planner's certificate.
 
 use crate::certificates::by_map;
 use certificate_check::{CheckRefusal, check};
@@ -8,7 +8,7 @@ use pmp_encoding::{Limit, Perm};
 use std::alloc::{AllocError, Global};
 use std::process::Abort;
 
-/// What a certificate has after its entries.
+/// Returns the part of a certificate after its entries.
 fn tree_in(certificate: &[u8]) -> Result<&[u8], ReadFault> {
     let mut reader = Reader::new(certificate);
     let header = reader.header()?;
@@ -18,7 +18,7 @@ fn tree_in(certificate: &[u8]) -> Result<&[u8], ReadFault> {
     Ok(reader.rest())
 }
 
-/// A certificate of that many entries and a tree.
+/// Returns a certificate with that many entries and a tree.
 fn certificate(
     alloc: Global,
     entries: &[u8],
@@ -33,7 +33,7 @@ fn certificate(
     Ok(bytes)
 }
 
-/// The check answers so to that many entries and the map's tree.
+/// Asserts the result of checking that many entries and the map's tree.
 fn answers(
     rt: &impl Abort,
     alloc: Global,
@@ -48,7 +48,7 @@ fn answers(
     assert!(rt; check(map, &bytes) == wanted);
 }
 
-/// The entries of nine bytes each, from the last to the first.
+/// Returns the entries, of nine bytes each, in reverse order.
 fn reversed(alloc: Global, entries: &[u8]) -> Result<Vec<u8>, AllocError> {
     let mut bytes = Vec::new(alloc);
     for entry in entries.chunks(9).rev() {
@@ -57,7 +57,7 @@ fn reversed(alloc: Global, entries: &[u8]) -> Result<Vec<u8>, AllocError> {
     Ok(bytes)
 }
 
-/// The entries of every second page from 0x80000 on, fifty of them, by falling address.
+/// Returns the entries of every second page from 0x80000 on, fifty of them, by falling address.
 fn falling_pages(alloc: Global) -> Result<Vec<u8>, AllocError> {
     let mut bytes = Vec::new(alloc);
     for i in 0..50u64 {
@@ -72,7 +72,7 @@ const WRONG: Result<u32, CheckRefusal> = Err(CheckRefusal::WrongMeaning);
 
 const TOO_MANY: Result<u32, CheckRefusal> = Err(CheckRefusal::EntriesTooMany);
 
-/// Gives every second page from 0x80000 on, fifty of them, a permission.
+/// Sets the permission of every second page from 0x80000 on, fifty of them.
 fn set_pages(map: &mut PermissionMap, perm: Perm) -> Result<(), MapFault> {
     for i in 0..50 {
         map.set_range(0x80000 + 2 * i, 1, perm)?;
@@ -80,7 +80,8 @@ fn set_pages(map: &mut PermissionMap, perm: Perm) -> Result<(), MapFault> {
     Ok(())
 }
 
-/// Fifty entries mean the map in either order; one fewer do not, and none do after the map is changed.
+/// Asserts that fifty entries mean the map in either order, that one fewer does not, and that none do after the map
+/// changes.
 fn mean_in_any_order(
     rt: &impl Abort,
     alloc: Global,
@@ -98,7 +99,7 @@ fn mean_in_any_order(
     answers(rt, alloc, map, rising, 50, WRONG);
 }
 
-/// Fifty entries mean their map by falling and by rising address.
+/// Asserts that fifty entries mean their map by falling and by rising address.
 fn mean_a_map(rt: &impl Abort, alloc: Global) {
     let mut map = PermissionMap::new(alloc);
     set_pages(&mut map, Perm::ReadWriteExecute).expect(rt, "memory");
@@ -107,10 +108,10 @@ fn mean_a_map(rt: &impl Abort, alloc: Global) {
     mean_in_any_order(rt, alloc, &mut map, &falling, &rising);
 }
 
-/// The block of 256 pages from 0x80000 on, with read alone.
+/// The read-only block of 256 pages from 0x80000 on.
 const WIDE: [u8; 9] = [0x19, 0xFF, 0xFF, 0x01, 0x20, 0, 0, 0, 0];
 
-/// The map of that block, and of every second of its first hundred pages with this permission.
+/// Returns the map of that block, with this permission on every second of its first hundred pages.
 fn wide_map(rt: &impl Abort, alloc: Global, perm: Perm) -> PermissionMap {
     let mut map = PermissionMap::new(alloc);
     map.set_range(0x80000, 256, Perm::Read).expect(rt, "memory");
@@ -118,14 +119,14 @@ fn wide_map(rt: &impl Abort, alloc: Global, perm: Perm) -> PermissionMap {
     map
 }
 
-/// The one after the other.
+/// Concatenates two byte strings.
 fn joined(alloc: Global, one: &[u8], other: &[u8]) -> Result<Vec<u8>, AllocError> {
     let mut both = Vec::from_slice(alloc, one)?;
     both.extend_from_slice(other)?;
     Ok(both)
 }
 
-/// The entries with read alone.
+/// Makes the entries read-only.
 fn with_read_alone(alloc: Global, entries: &[u8]) -> Result<Vec<u8>, AllocError> {
     let mut bytes = Vec::new(alloc);
     for entry in entries.chunks(9) {
@@ -135,19 +136,19 @@ fn with_read_alone(alloc: Global, entries: &[u8]) -> Result<Vec<u8>, AllocError>
     Ok(bytes)
 }
 
-/// The falling pages, and the block of 256 pages after them.
+/// Returns the falling pages followed by the block of 256 pages.
 fn wide_last(rt: &impl Abort, alloc: Global) -> Vec<u8> {
     let falling = falling_pages(alloc).expect(rt, "memory");
     joined(alloc, &falling, WIDE.as_slice()).expect(rt, "memory")
 }
 
-/// The falling pages, and the block of 256 pages before them.
+/// Returns the block of 256 pages followed by the falling pages.
 fn wide_first(rt: &impl Abort, alloc: Global) -> Vec<u8> {
     let falling = falling_pages(alloc).expect(rt, "memory");
     joined(alloc, WIDE.as_slice(), &falling).expect(rt, "memory")
 }
 
-/// The check answers so to that many entries and the tree of the block with pages of this permission.
+/// Asserts the result of checking that many entries and the tree of the block with pages of this permission.
 fn wide_answers(
     rt: &impl Abort,
     alloc: Global,
@@ -160,7 +161,7 @@ fn wide_answers(
     answers(rt, alloc, &map, entries, count, wanted);
 }
 
-/// Of the falling pages and the block of 256 pages the first decides on each page.
+/// Asserts that the first of the falling pages and the block of 256 pages decides each page.
 fn the_first_decides(rt: &impl Abort, alloc: Global) {
     let last = wide_last(rt, alloc);
     wide_answers(rt, alloc, Perm::ReadWriteExecute, &last, 51, Ok(51));
@@ -171,14 +172,14 @@ fn the_first_decides(rt: &impl Abort, alloc: Global) {
     wide_answers(rt, alloc, Perm::Read, &first, 51, TOO_MANY);
 }
 
-/// The falling pages, the block of 256 pages, and the pages again with read alone.
+/// Returns the falling pages, the block of 256 pages, and the pages again, now read-only.
 fn wide_last_and_again(rt: &impl Abort, alloc: Global) -> Vec<u8> {
     let falling = falling_pages(alloc).expect(rt, "memory");
     let again = with_read_alone(alloc, &falling).expect(rt, "memory");
     joined(alloc, &wide_last(rt, alloc), &again).expect(rt, "memory")
 }
 
-/// Entries that come twice are too many.
+/// Asserts that duplicate entries are too many.
 fn are_too_many(rt: &impl Abort, alloc: Global) {
     let twice = wide_last_and_again(rt, alloc);
     wide_answers(rt, alloc, Perm::ReadWriteExecute, &twice, 101, TOO_MANY);
@@ -191,8 +192,8 @@ fn entries_in_any_order_mean_a_map(rt: HostRuntime) {
     are_too_many(&rt, rt.alloc());
 }
 
-/// The map of 2,200 runs, each of the 0x55555555 pages on either side of the middle of 2^32. Each side needs a block of
-/// 2^30 pages, one of 2^28 and so on down to one page: sixteen entries.
+/// Returns the map of 2,200 runs, each of the 0x55555555 pages on either side of the middle of 2^32. Each side needs a
+/// block of 2^30 pages, one of 2^28 and so on down to one page: sixteen entries.
 fn map_of_many_entries(alloc: Global) -> Result<PermissionMap, MapFault> {
     let mut map = PermissionMap::new(alloc);
     for i in 0..2200u64 {
@@ -202,14 +203,14 @@ fn map_of_many_entries(alloc: Global) -> Result<PermissionMap, MapFault> {
     Ok(map)
 }
 
-/// The planner's entries for the map of many, from the last to the first.
+/// Returns the planner's entries for that map, in reverse order.
 fn many_reversed(rt: &impl Abort, alloc: Global, map: &PermissionMap) -> Vec<u8> {
     let planned = by_map(rt, alloc, map, Limit::Sixteen);
     let entries = planned.get(9..633609).expect(rt, "as many entries");
     reversed(alloc, entries).expect(rt, "memory")
 }
 
-/// That many entries mean the map; one fewer do not, and none do after the map is changed.
+/// Asserts that this many entries mean the map, that one fewer does not, and that none do after the map changes.
 fn many_mean(rt: &impl Abort, alloc: Global, map: &mut PermissionMap, falling: &[u8]) {
     assert!(rt; falling.len() == 633600);
     answers(rt, alloc, map, falling, 70400, Ok(70400));

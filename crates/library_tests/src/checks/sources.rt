@@ -1,4 +1,4 @@
-//! Certificates that a source gives piece by piece.
+//! Certificates that a source returns piece by piece.
 
 use crate::checks::{LOWER_HALF, LOWER_HALF_SPACE, map_of};
 use certificate_check::check_source;
@@ -8,11 +8,11 @@ use std::process::Abort;
 use text_lines::SourceFault;
 use text_lines::fakes::PieceSource;
 
-/// How many bytes may come where nothing else is said.
+/// The default limit on the bytes of a source.
 const MOST: u32 = 1 << 26;
 
-/// What the check of such a source comes to: the number of entries, or 100 and the number of the refusal, or 200, 201 and 202
-/// where there is no verdict.
+/// Returns the result of checking such a source: the number of entries, or 100 plus the number of the refusal, or 200,
+/// 201 and 202 if there is no verdict.
 fn code(alloc: Global, map: &PermissionMap, source: &mut PieceSource, most: u32) -> u32 {
     match check_source(alloc, map, source, most) {
         Ok(Ok(header)) => header.count,
@@ -23,7 +23,7 @@ fn code(alloc: Global, map: &PermissionMap, source: &mut PieceSource, most: u32)
     }
 }
 
-/// The lower half's certificate with one byte changed, in pieces of this length, comes to this.
+/// Asserts the result for the lower half's certificate with one byte changed, in pieces of this length.
 fn comes_to(rt: &impl Abort, alloc: Global, piece: usize, place: usize, byte: u8, wanted: u32) {
     let map = map_of(rt, alloc, LOWER_HALF_SPACE);
     let mut bytes = LOWER_HALF;
@@ -48,7 +48,7 @@ fn pieces_have_any_length(rt: HostRuntime) {
     }
 }
 
-/// The lower half's certificate, of which each read gives a byte, and the read `failing` fails, comes to this.
+/// Asserts the result for the lower half's certificate, read byte by byte, if the read `failing` fails.
 fn ends_with(rt: &impl Abort, alloc: Global, failing: Option<u64>, most: u32, wanted: u32) {
     let map = map_of(rt, alloc, LOWER_HALF_SPACE);
     let mut source = PieceSource::new(LOWER_HALF.as_slice(), 1, failing);

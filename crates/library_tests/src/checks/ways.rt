@@ -1,4 +1,4 @@
-//! Certificates of trees that are split down to one page, written by hand.
+//! Handwritten certificates of trees that are split down to one page.
 
 use super::{SEVEN_PAGES, answers, code, map_of, range_answers};
 use crate::certificates::by_map;
@@ -8,7 +8,7 @@ use pmp_encoding::{Limit, Perm};
 use std::alloc::{AllocError, Global};
 use std::process::Abort;
 
-/// A tree that is split down to one page: blocks of fewer pages than `2^near` beside the way have one permission,
+/// A tree that is split down to one page: blocks of fewer than `2^near` pages beside the path have one permission,
 /// larger ones have none.
 #[derive(Clone, Copy)]
 struct Way {
@@ -27,7 +27,7 @@ impl Way {
         }
     }
 
-    /// The costs of the block of 2^log2 pages that holds the page.
+    /// Returns the costs of the block of 2^log2 pages that contains the page.
     fn costs(self, log2: u32) -> [u32; 6] {
         if log2 == 0 {
             return leaf_costs(self.perm);
@@ -82,7 +82,7 @@ fn joined(lower: [u32; 6], upper: [u32; 6]) -> [u32; 6] {
     costs
 }
 
-/// A certificate with these entries and the tree of a way.
+/// Returns a certificate with these entries and the tree of a path.
 fn certificate(alloc: Global, pairs: &[(u8, u64)], way: Way) -> Result<Vec<u8>, AllocError> {
     let mut out = Vec::new(alloc);
     out.extend_from_slice(b"PMPC\x01".as_slice())?;
@@ -109,7 +109,7 @@ const HOLE: (u8, u64) = (0x18, 0x2008_3DFF);
 
 const EIGHT_PAGES: (u8, u64) = (0x1D, 0x2008_2FFF);
 
-/// The certificate of seven pages, with a cost of two at the root.
+/// Returns the certificate of seven pages, with a cost of two at the root.
 fn seven_pages(rt: &impl Abort, alloc: Global) -> Vec<u8> {
     let entries = [HOLE, EIGHT_PAGES];
     let bytes = certificate(alloc, entries.as_slice(), seven_pages_way()).expect(rt, "memory");
@@ -117,7 +117,7 @@ fn seven_pages(rt: &impl Abort, alloc: Global) -> Vec<u8> {
     bytes
 }
 
-/// The certificate of seven pages with one of its bytes changed is refused with this number.
+/// Asserts that the certificate of seven pages with one byte changed is refused with this number.
 fn is_refused_with(
     rt: &impl Abort,
     alloc: Global,
@@ -151,7 +151,7 @@ fn one_page_needs_one_entry(rt: HostRuntime) {
     range_answers(&rt, rt.alloc(), page, bytes.as_slice(), Ok(1));
 }
 
-/// The certificate of seven pages is right, and what is cut off it anywhere is truncated.
+/// Asserts that the certificate of seven pages is accepted, and that each proper prefix of it is truncated.
 fn are_all_needed(rt: &impl Abort, map: &PermissionMap, bytes: &[u8]) {
     assert!(rt; bytes.len() == 1217);
     answers(rt, map, bytes, Ok(2));
@@ -161,7 +161,7 @@ fn are_all_needed(rt: &impl Abort, map: &PermissionMap, bytes: &[u8]) {
     }
 }
 
-/// The planner's certificate of the map has these bytes.
+/// Asserts that these bytes are the planner's certificate of the map.
 fn is_the_planners(rt: &impl Abort, alloc: Global, map: &PermissionMap, bytes: &[u8]) {
     assert!(rt; by_map(rt, alloc, map, Limit::Sixteen).as_slice() == bytes);
 }
@@ -174,7 +174,7 @@ fn seven_pages_need_two_entries_and_all_their_bytes(rt: HostRuntime) {
     are_all_needed(&rt, &map, bytes.as_slice());
 }
 
-/// The place of a byte, another byte, and the number of the refusal.
+/// The position of a byte, its new value, and the number of the refusal.
 const REFUSALS: &[(usize, u8, u8)] = &[
     (1216, 7, 10),
     (1216, 2, 5),
@@ -185,14 +185,15 @@ const REFUSALS: &[(usize, u8, u8)] = &[
     (28, 1, 13),
 ];
 
-/// One byte more than the certificate of seven pages is trailing.
+/// Asserts that one more byte after the certificate of seven pages is trailing.
 fn is_trailing(rt: &impl Abort, alloc: Global, map: &PermissionMap) {
     let mut longer = seven_pages(rt, alloc);
     longer.push(0).expect(rt, "memory");
     answers(rt, map, &longer, Err(CheckRefusal::Trailing));
 }
 
-/// The certificate of seven pages with three entries, the last of them for nothing, and with this cost at the root.
+/// Returns the certificate of seven pages with three entries, the last of them redundant, and with this cost at the
+/// root.
 fn with_three_entries(rt: &impl Abort, alloc: Global, cost: u8) -> Vec<u8> {
     let entries = [HOLE, EIGHT_PAGES, EIGHT_PAGES];
     let mut bytes = certificate(alloc, entries.as_slice(), seven_pages_way()).expect(rt, "memory");
@@ -203,7 +204,7 @@ fn with_three_entries(rt: &impl Abort, alloc: Global, cost: u8) -> Vec<u8> {
     bytes
 }
 
-/// The check of three entries, with this cost at the root, refuses them so.
+/// Asserts how the check refuses three entries with this cost at the root.
 fn three_are_refused(
     rt: &impl Abort,
     alloc: Global,
@@ -215,7 +216,7 @@ fn three_are_refused(
     answers(rt, map, bytes.as_slice(), Err(refusal));
 }
 
-/// The two entries the other way round mean another map.
+/// Asserts that the two entries in reverse order mean another map.
 fn is_another_meaning(rt: &impl Abort, alloc: Global, map: &PermissionMap) {
     let entries = [EIGHT_PAGES, HOLE];
     let exchanged = certificate(alloc, entries.as_slice(), seven_pages_way()).expect(rt, "memory");

@@ -1,31 +1,32 @@
-//! The tree of the host's view as it is kept, against one that is built anew of the view, call by call.
+//! Compares the maintained tree of the host's view with one built from the view, call by call.
 
 use super::*;
 use entry_planner::plan;
 use plan_certificate::write;
 use prefix_tree::{Tree, build};
 
-/// The certificate of a tree and its plan.
+/// Returns the certificate of a tree and its plan.
 fn certificate(rt: &impl Abort, alloc: Global, table: &Table, tree: &Tree) -> Vec<u8> {
     let plan = plan(alloc, tree).expect(rt, "memory");
     write(alloc, tree, &plan, table.limit()).expect(rt, "memory")
 }
 
-/// The certificate of a tree that is built anew of the host's view.
+/// Returns the certificate of a tree built from the host's view.
 fn certificate_anew(rt: &impl Abort, alloc: Global, table: &Table) -> Vec<u8> {
     let map = table.host_view().expect(rt, "memory");
     let tree = build(alloc, &map).expect(rt, "memory");
     certificate(rt, alloc, table, &tree)
 }
 
-/// Whether the tree that is kept has the certificate of one that is built anew of the host's view, and so the same plan.
+/// Returns whether the maintained tree has the same certificate as one built from the host's view, and hence the same
+/// plan.
 fn is_as_built_anew(rt: &impl Abort, alloc: Global, table: &Table) -> bool {
     let anew = certificate_anew(rt, alloc, table);
     let kept = certificate(rt, alloc, table, table.host_tree());
     anew.as_slice() == kept.as_slice()
 }
 
-/// Destroys every second enclave from the id `first` on; each call leaves the tree as if built anew.
+/// Destroys every second enclave from the id `first` on; each call leaves the tree as if rebuilt.
 pub fn destroys_every_second(
     rt: &impl Abort,
     alloc: Global,
@@ -40,7 +41,7 @@ pub fn destroys_every_second(
     }
 }
 
-/// Creates enclaves of one page each, side by side; each call leaves the tree as if built anew.
+/// Creates enclaves of one page each, side by side; each call leaves the tree as if rebuilt.
 pub fn creates_side_by_side(rt: &impl Abort, alloc: Global, table: &mut Table, count: u64) {
     for i in 0..count.min(64) {
         creates(rt, table, page_at(0x8020_0000 + i * 0x1000), Ok(i + 1));
@@ -48,12 +49,12 @@ pub fn creates_side_by_side(rt: &impl Abort, alloc: Global, table: &mut Table, c
     }
 }
 
-/// The first word of an enclave's digest.
+/// Returns the first word of an enclave's digest.
 fn first_word(table: &Table, id: u64) -> Option<u64> {
     table.word(id, 0).ok()
 }
 
-/// An enclave is not destroyed, for too few entries, and keeps its digest.
+/// Asserts that an enclave is not destroyed, for lack of entries, and keeps its digest.
 pub fn keeps(rt: &impl Abort, table: &mut Table, id: u64) {
     let first = first_word(table, id);
     destroys(rt, table, id, Err(Refusal::NoEntries));

@@ -1,26 +1,26 @@
-//! An enclave from its creation to its end: who may enter, leave and destroy it, and when.
+//! An enclave from its creation to its end, and the callers and states in which it may be entered, left and destroyed.
 
 use super::*;
 use enclave_table::{Entering, Leaving};
 
-/// The table of the example platform with one enclave of one page.
+/// Returns the table of the example platform with one enclave of one page.
 fn with_one_page(rt: &impl Abort, alloc: Global) -> Table {
     let mut table = example_table(rt, alloc, 16);
     creates(rt, &mut table, page_at(0x8020_0000), Ok(1));
     table
 }
 
-/// The host does not enter an enclave, and is refused so.
+/// Asserts that the host's entry into an enclave is refused.
 fn refuses_entry(rt: &impl Abort, table: &mut Table, id: u64, entering: Entering, wanted: Refusal) {
     assert!(rt; table.enter(World::Host, id, entering) == Err(wanted));
 }
 
-/// The word of a digest is refused so.
+/// Asserts that reading a word of the digest is refused.
 fn refuses_word(rt: &impl Abort, table: &Table, id: u64, k: u64, wanted: Refusal) {
     assert!(rt; table.word(id, k) == Err(wanted));
 }
 
-/// Whether the host enters an enclave, which is not destroyed while it runs, and is then left.
+/// Returns whether the host enters an enclave, which is not destroyed while it runs and is then left.
 #[tactic(auto, using(crate::proofs::Entered::entered))]
 fn runs(table: &mut Table, id: u64, entering: Entering, leaving: Leaving) -> bool {
     let Ok(()) = table.enter(World::Host, id, entering) else {
@@ -32,7 +32,7 @@ fn runs(table: &mut Table, id: u64, entering: Entering, leaving: Leaving) -> boo
     table.leave(World::Enclave(id), leaving) == Ok(id)
 }
 
-/// The calls that the host alone may make.
+/// The calls that only the host may make.
 #[derive(Clone, Copy)]
 enum HostCall {
     Create,
@@ -40,7 +40,7 @@ enum HostCall {
     Enter,
 }
 
-/// How an enclave that was entered is refused such a call.
+/// Returns the refusal of such a call from inside an enclave.
 fn refused_inside(table: &mut Table, id: u64, call: HostCall) -> Option<Refusal> {
     let Ok(()) = table.enter(World::Host, id, Entering::Run) else {
         return None;
@@ -53,7 +53,7 @@ fn refused_inside(table: &mut Table, id: u64, call: HostCall) -> Option<Refusal>
     }
 }
 
-/// The first enclave is entered and stopped, resumed and left for good, and destroyed; each call before its time is
+/// Enters and stops the first enclave, resumes it and leaves it for good, and destroys it; each call before its time is
 /// refused.
 fn lives(rt: &impl Abort, table: &mut Table) {
     refuses_entry(rt, table, 1, Entering::Resume, Refusal::BadState);
@@ -72,13 +72,13 @@ fn an_enclave_is_entered_stopped_resumed_and_exits(rt: HostRuntime) {
     lives(&rt, &mut table);
 }
 
-/// The answer where the host leaves an enclave that it is not in.
+/// Returns the result when the host leaves an enclave that it is not in.
 fn left_by_the_host(rt: &impl Abort, alloc: Global) -> Result<u64, Refusal> {
     let mut table = with_one_page(rt, alloc);
     table.leave(World::Host, Leaving::Stop)
 }
 
-/// How the enclave of a new table is refused such a call.
+/// Returns the refusal of such a call from the enclave of a new table.
 fn refused_to_one(rt: &impl Abort, alloc: Global, call: HostCall) -> Option<Refusal> {
     let mut table = with_one_page(rt, alloc);
     refused_inside(&mut table, 1, call)

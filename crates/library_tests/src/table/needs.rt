@@ -1,16 +1,16 @@
-//! How many entries the views after a creation or a destruction need, where there are as many and where there are not.
+//! The number of entries that the views after a creation or a destruction need, whether or not there are that many.
 
 use super::*;
 
-/// The host's view and the enclave's own would need that many entries after a creation; nothing where it is refused by
-/// another check.
+/// Asserts the number of entries that the host's view and the enclave's own would need after a creation, or that
+/// another check refuses it if `wanted` is `None`.
 pub fn of_creation(rt: &impl Abort, table: &Table, asked: Create, wanted: Option<CreateNeeds>) {
     let needs = table.needed_by_create(World::Host, asked);
     assert!(rt; needs.expect(rt, "memory") == wanted);
 }
 
-/// The host's view would need that many entries after the destruction of an enclave; nothing where it is refused by
-/// another check.
+/// Asserts the number of entries that the host's view would need after the destruction of an enclave, or that another
+/// check refuses it if `wanted` is `None`.
 pub fn of_destruction(rt: &impl Abort, table: &Table, id: u64, wanted: Option<u32>) {
     let needs = table.needed_by_destroy(World::Host, id);
     assert!(rt; needs.expect(rt, "memory") == wanted);

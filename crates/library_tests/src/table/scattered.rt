@@ -1,4 +1,4 @@
-//! Enclaves of one page each, until the host's view needs more entries than there are.
+//! Enclaves of one page each, until the host's view needs too many entries.
 
 use super::*;
 

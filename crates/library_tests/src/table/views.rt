@@ -3,27 +3,27 @@
 use super::*;
 use permission_map::PermissionMap;
 
-/// What is so of the host's view and of those of enclaves, and of the lists that mean them.
+/// An assertion about the views of the host and of enclaves, or the lists that mean them.
 #[derive(Clone, Copy)]
 enum Seen<'a> {
-    /// The numbers in the address registers of the host's list.
+    /// The address registers of the host's list.
     HostLists(&'a [u64]),
-    /// Those of an enclave's list; none where there is no such enclave.
+    /// The address registers of an enclave's list, or `None` if the enclave does not exist.
     Lists(u64, Option<&'a [u64]>),
-    /// How many maximal runs an enclave's view has; none where there is no such enclave.
+    /// The number of maximal runs of an enclave's view, or `None` if the enclave does not exist.
     Runs(u64, Option<usize>),
-    /// What the host may do with a page.
+    /// The permission of the host on a page.
     HostPage(u32, Perm),
-    /// What an enclave may do with a page.
+    /// The permission of an enclave on a page.
     Page(u64, u32, Perm),
-    /// Where an enclave is entered.
+    /// The entry point of an enclave.
     EnteredAt(u64, u64),
-    /// How many entries the host's view uses.
+    /// The number of entries that the host's view uses.
     Uses(usize),
     Owns(u32, Owner),
 }
 
-/// That this is so of a table.
+/// Checks the assertion on a table.
 fn is_so(rt: &impl Abort, table: &Table, seen: Seen) {
     match seen {
         Seen::HostLists(wanted) => assert!(rt; have_addresses(table.host_entries(), wanted)),
@@ -37,7 +37,7 @@ fn is_so(rt: &impl Abort, table: &Table, seen: Seen) {
     }
 }
 
-/// All this is so of a new table with this enclave, or with none.
+/// Checks the assertions on a new table with this enclave, or with none.
 fn sees(rt: &impl Abort, alloc: Global, asked: Option<Create>, seen: &[Seen]) {
     let mut table = example_table(rt, alloc, 16);
     if let Some(asked) = asked {
@@ -46,37 +46,37 @@ fn sees(rt: &impl Abort, alloc: Global, asked: Option<Create>, seen: &[Seen]) {
     all_are_so(rt, &table, seen);
 }
 
-/// All this is so of a table.
+/// Checks the assertions on a table.
 fn all_are_so(rt: &impl Abort, table: &Table, seen: &[Seen]) {
     for one in seen {
         is_so(rt, table, *one);
     }
 }
 
-/// The list of an enclave has that many entries.
+/// Asserts the number of entries in an enclave's list.
 pub fn lists_many(rt: &impl Abort, table: &Table, id: u64, wanted: usize) {
     assert!(rt; table.enclave_entries(id).map(|entries| entries.len()) == Some(wanted));
 }
 
-/// How many maximal runs the view of an enclave has.
+/// Returns the number of maximal runs of an enclave's view.
 fn run_count(rt: &impl Abort, table: &Table, id: u64) -> Option<usize> {
     let view = table.enclave_view(id).expect(rt, "memory");
     view.map(|view| view.ranges().len())
 }
 
-/// A page of a view has this permission.
+/// Asserts the permission of a page in a view.
 fn gives(rt: &impl Abort, view: &PermissionMap, page: u32, perm: Perm) {
     assert_eq!(rt; view.get(u64::from(page)), perm, "page {page:#x}");
 }
 
-/// A page of the view of an enclave has this permission.
+/// Asserts the permission of a page in an enclave's view.
 fn enclave_sees(rt: &impl Abort, table: &Table, id: u64, page: u32, perm: Perm) {
     let view = table.enclave_view(id).expect(rt, "memory");
     let view = view.expect(rt, "an enclave");
     gives(rt, &view, page, perm);
 }
 
-/// A page of the host's view has this permission.
+/// Asserts the permission of a page in the host's view.
 fn host_sees(rt: &impl Abort, table: &Table, page: u32, perm: Perm) {
     let view = table.host_view().expect(rt, "memory");
     gives(rt, &view, page, perm);
@@ -104,7 +104,7 @@ fn seven_pages_need_two_entries(rt: HostRuntime) {
     sees(&rt, rt.alloc(), Some(asked), seen.as_slice());
 }
 
-/// A page of text, one of data and one that is shared.
+/// Returns the parts of an enclave with a page of text, one of data and a shared one.
 fn three_pages() -> Create {
     let mut asked = page_at(0x8020_0000);
     asked.data_pages = 1;

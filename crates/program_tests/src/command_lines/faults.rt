@@ -1,11 +1,11 @@
-//! Words that are no task, and what is said of them.
+//! Words that form no task, and their error messages.
 
 use clap::error::ErrorKind;
 use command_line::{Fault, error_with_usage, request_of_words};
 use std::alloc::Global;
 use std::process::Abort;
 
-/// The words name no task, and that is said of them.
+/// Asserts that the words form no task and that this is the error message.
 fn is_told(rt: &impl Abort, alloc: Global, words: &[&str], said: &str) {
     match request_of_words(alloc, &*words) {
         Ok(_) => panic!(rt; "a task: {words:?}"),

@@ -5,7 +5,7 @@ use command_line::request_of_words;
 use std::alloc::Global;
 use std::process::Abort;
 
-/// The words ask for help, which is no task.
+/// Asserts that the words ask for help, which is not a task.
 fn is_help(rt: &impl Abort, alloc: Global, words: &[&str]) {
     match request_of_words(alloc, words) {
         Ok(_) => panic!(rt; "a task"),

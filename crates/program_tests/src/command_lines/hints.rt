@@ -1,4 +1,4 @@
-//! When hints are given.
+//! The option for hints.
 
 use command_line::{Hints, request_of_words};
 use std::test::Fail;

@@ -1,4 +1,4 @@
-//! Words, and the tasks that they are.
+//! Words, and the tasks that they form.
 
 use command_line::{
     Answers, Format, Hints, LintKind, Options, TableFormat, Task, request_of_words,
@@ -8,7 +8,7 @@ use pmp_match::Mode;
 use std::alloc::Global;
 use std::process::Abort;
 
-/// Words, the task that they are, and how it is done.
+/// Words, the task that they form, and its options.
 pub type Row<'a> = (&'a [&'a str], Task<'a>, Options<'a>);
 
 /// The options of words that name none.
@@ -28,7 +28,7 @@ pub const PLAIN: Options<'static> = Options {
     hints: Hints::Auto,
 };
 
-/// The words are this task with these options.
+/// Asserts that the words form this task with these options.
 fn is_task(rt: &impl Abort, alloc: Global, words: &[&str], task: &Task<'_>, options: &Options<'_>) {
     match request_of_words(alloc, &*words) {
         Ok(request) => {
@@ -39,7 +39,7 @@ fn is_task(rt: &impl Abort, alloc: Global, words: &[&str], task: &Task<'_>, opti
     }
 }
 
-/// Each row's words are its task.
+/// Asserts that each row's words form its task.
 pub fn are_tasks(rt: &impl Abort, alloc: Global, rows: &[Row<'_>]) {
     for (words, task, options) in rows {
         is_task(rt, alloc, words, task, options);

@@ -1,4 +1,4 @@
-//! The texts of a board's device tree.
+//! The texts made from a board's device tree.
 
 use super::runs::{ends, prints};
 use std::alloc::Global;
@@ -14,7 +14,7 @@ const MAP: &str =
 const PLATFORM: &str =
     "# The platform of a device tree. It does not name nodes that are not in use,\n# /reserved-memory without no-map or reg, and what is reached through PCI.\n# A device that reads or writes memory by itself reaches all of it: take out the\n# table of each that the host is not to have.\nharts = 1 # the tree has 1 in use\nentries = 16 # a tree does not say how many: 16 or 64\n\n[monitor]\n# as it was given\nbase = 0x80000000\nsize = 0x1000\n\n# memory: memory 0x80000000 0x8000000\n[[ram]]\nbase = 0x80000000\nsize = 0x8000000\n\n";
 
-/// Of each input nothing is printed, and this is said.
+/// Asserts that each input prints nothing and causes this message.
 fn all_refused(rt: &impl Abort, alloc: Global, rows: &[(&[&str], &[u8], &str)]) {
     for (words, first, said) in rows {
         ends(rt, alloc, words, (*first, b""), 2, b"", said.as_bytes());

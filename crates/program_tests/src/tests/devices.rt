@@ -1,4 +1,4 @@
-//! A command line, run on devices that give and take few bytes at a time, and fail where they are set to.
+//! Runs a command line on devices that transfer few bytes at a time and fail on request.
 
 ghost use Rattle.std.specs.Prelude.{Some, true, refl};
 ghost use Rattle.text_lines.specs.Fakes.{written_of};
@@ -11,8 +11,8 @@ use std::process::Abort;
 use text_lines::fakes::{PieceSink, PieceSource};
 use text_lines::{DeviceFault, Direct, Sink};
 
-/// A place, and a sink whose k-th call fails, the one that puts its bytes there among them. Nothing is in the place until
-/// then.
+/// A destination file, and a sink whose k-th call fails, counting the call that puts the bytes in place. The
+/// destination is empty until then.
 #[derive(Drop)]
 struct PlacedSink {
     sink: PieceSink,
@@ -47,7 +47,7 @@ impl WholeSink for PlacedSink {
 
     #[tactic(auto, unfolding(text_lines::specs::Streams::GrowsByOne))]
     fn put_in_place(&mut self) -> Result<(), DeviceFault> {
-        // A write of no bytes is counted, and fails in its turn, as any other.
+        // An empty write is counted, and can fail like any other.
         self.sink.write(b"")?;
         match Vec::from_slice(self.alloc, self.sink.written()) {
             Ok(placed) => {
@@ -70,7 +70,7 @@ impl WholeSink for PlacedSink {
     ghost apart = { λ _ _ _. refl };
 }
 
-/// How many bytes the inputs give at a time, and which call of each device fails, counted from 1.
+/// The number of bytes that the inputs return per read, and the call of each device that fails, counted from 1.
 #[derive(Clone, Copy)]
 pub struct Failing {
     pub piece: usize,
@@ -82,7 +82,7 @@ pub struct Failing {
 }
 
 impl Failing {
-    /// Inputs of this many bytes at a time, where no call fails.
+    /// Returns inputs with this many bytes per read, and devices that never fail.
     pub fn none(piece: usize) -> Failing {
         Failing {
             piece,
@@ -95,21 +95,21 @@ impl Failing {
     }
 }
 
-/// What a command left, and what became of its devices.
+/// The output of a command, and the final state of its devices.
 #[derive(Drop)]
 pub struct Tried {
     pub status: u8,
     pub out: Vec<u8>,
     pub err: Vec<u8>,
-    /// The certificate was put in its place.
+    /// True if the certificate was put in place.
     pub is_placed: bool,
-    /// A device failed.
+    /// True if a device failed.
     pub has_failed: bool,
-    /// How often the second input was read.
+    /// The number of reads of the second input.
     pub second_reads: u64,
 }
 
-/// Runs a command line on two inputs and on devices that fail.
+/// Runs a command line on two inputs and on devices that may fail.
 pub fn try_on(
     rt: &impl Abort,
     alloc: Global,

@@ -1,4 +1,4 @@
-//! Each read and each write fails in turn under each command.
+//! Runs each command while each read and each write fails in turn.
 
 use super::boards::BOARD;
 use super::devices::{Failing, Tried, try_on};
@@ -8,16 +8,16 @@ use std::process::Abort;
 
 const MAP: &[u8] = b"0x80000000 0x1000 rwx\n0x10000000 0x1000 rw\n";
 
-/// The registers that mean it.
+/// The registers that mean the map.
 const LISTING: &[u8] = b"pmpcfg0 0x1f1b\npmpaddr0 0x40001ff\npmpaddr1 0x200001ff\n";
 
-/// A map of which a line changes nothing.
+/// A map with a redundant line.
 const IDLE: &[u8] = b"0 0x1000 r\n0 0x2000 rw\n";
 
-/// The lower half of the space is rwx.
+/// A map in which the lower half of the address space is rwx.
 const HALF: &[u8] = b"0 0x80000000000000 rwx\n";
 
-/// Its certificate: one entry, and a branch of two leaves.
+/// The certificate of that map: one entry, and a branch with two leaves.
 const OF_HALF: &[u8] =
     b"PMPC\x01\x01\0\0\0\x1F\xFF\xFF\xFF\xFF\xFF\xFF\x0F\0\x01\x01\0\0\0\x02\0\0\0\x02\0\0\0\x02\0\0\0\x02\0\0\0\x01\0\0\0\0\x07\0\0";
 
@@ -25,7 +25,7 @@ const PLAN: &[&str] = &["pmpmon", "plan", "m", "c"];
 
 const CERTIFICATE: &str = "pmpmon: c: cannot write\n";
 
-/// The device whose k-th call fails, and what is said then.
+/// A device whose k-th call fails.
 #[derive(Clone, Copy)]
 enum Device {
     First,
@@ -44,7 +44,7 @@ const DEVICES: [Device; 5] = [
 ];
 
 impl Device {
-    /// Its k-th call fails, and no other.
+    /// Lets only the k-th call of the device fail.
     fn failing_at(self, k: u64) -> Failing {
         let mut failing = Failing::none(9);
         match self {
@@ -57,7 +57,7 @@ impl Device {
         failing
     }
 
-    /// What is said of it, where standard error works.
+    /// Returns the message for the failure, if standard error works.
     fn said(self) -> &'static str {
         match self {
             Device::First => "pmpmon: m: cannot read\n",
@@ -68,33 +68,33 @@ impl Device {
         }
     }
 
-    /// Whether something may be printed before it fails.
+    /// Returns whether something may be printed before the device fails.
     fn may_print(self) -> bool {
         matches!(self, Device::Second | Device::Output)
     }
 
-    /// Whether a certificate may have been put in its place before it fails.
+    /// Returns whether a certificate may be put in place before the device fails.
     fn may_place(self) -> bool {
         matches!(self, Device::Output)
     }
 }
 
-/// What a command leaves where the device failed: its text, and a beginning of what it prints.
+/// Asserts the message after a device failure, and that the output is a prefix of the full one.
 fn ended_by(rt: &impl Abort, device: Device, tried: &Tried, ample: &Tried) {
     let printed = tried.out.as_slice();
     assert!(rt; tried.status == 3);
     assert!(rt; tried.err.as_slice() == device.said().as_bytes());
     assert!(rt; ample.out.as_slice().starts_with(printed));
-    // All lines may have been judged when the read after the last one fails.
+    // All lines may already be judged when the read after the last one fails.
     assert!(rt; matches!(device, Device::Second) || printed.len() < ample.out.len());
     assert!(rt; device.may_print() || printed.is_empty());
     assert!(rt; device.may_place() || !tried.is_placed);
 }
 
-/// A command line, and its inputs.
+/// A command line and its inputs.
 type Row<'a> = (&'a [&'a str], &'a [u8], &'a [u8]);
 
-/// Each call of a device fails in turn, until none is left that could.
+/// Lets each call of a device fail in turn until the command succeeds.
 fn each_call_fails(rt: &impl Abort, alloc: Global, row: Row<'_>, device: Device) {
     let (words, first, second) = row;
     let ample = try_on(rt, alloc, words, first, second, Failing::none(9));
@@ -112,7 +112,7 @@ fn each_call_fails(rt: &impl Abort, alloc: Global, row: Row<'_>, device: Device)
     panic!(rt; "no end")
 }
 
-/// Each call of each device fails in turn, of each command line.
+/// Lets each call of each device fail in turn, for each command line.
 fn each_device_fails(rt: &impl Abort, alloc: Global, rows: &[Row<'_>]) {
     for row in rows {
         for device in DEVICES {
@@ -121,7 +121,7 @@ fn each_device_fails(rt: &impl Abort, alloc: Global, rows: &[Row<'_>]) {
     }
 }
 
-/// The same of a check of the map's certificate, and of an audit of its plan as it is printed.
+/// As above, for a check of the map's certificate and an audit of its printed plan.
 fn each_device_fails_on_a_plan(rt: &impl Abort, alloc: Global) {
     let cert = certificate(rt, alloc, PLAN, MAP);
     let plan = printed(rt, alloc, &["pmpmon", "plan", "m"], MAP, b"");
@@ -163,10 +163,10 @@ fn a_failing_device_ends_each_command_with_its_text(rt: HostRuntime) {
     each_device_fails_on_a_plan(&rt, rt.alloc())
 }
 
-/// What a command leaves: its status and what it says, whether it prints, and whether a certificate is in its place.
+/// The result of a command: its status and message, whether it prints, and whether a certificate is in place.
 type Left<'a> = (u8, &'a str, bool, bool);
 
-/// A command left this. It ended with 3 if a device failed, and the second input was not read.
+/// Asserts the result of a command. It exited with 3 iff a device failed, and the second input was not read.
 fn is_left(rt: &impl Abort, tried: &Tried, left: Left<'_>) {
     assert!(rt; tried.status == left.0);
     assert!(rt; tried.err.as_slice() == left.1.as_bytes());
@@ -176,7 +176,7 @@ fn is_left(rt: &impl Abort, tried: &Tried, left: Left<'_>) {
     assert!(rt; tried.second_reads == 0);
 }
 
-/// Each command line leaves this for a first input, where a call of a device fails.
+/// Asserts the result of each command line on a first input, while a call of a device fails.
 fn each_leaves(rt: &impl Abort, alloc: Global, rows: &[(&[&str], &[u8], Failing, Left<'_>)]) {
     for (words, first, failing, left) in rows {
         let tried = try_on(rt, alloc, words, first, b"", *failing);
@@ -189,7 +189,7 @@ fn files_are_read_and_placed_in_their_order(rt: HostRuntime) {
     let none = Failing::none(9);
     let cut = Device::Output.failing_at(1);
     let said = Device::Output.said();
-    // The certificate of the empty map is one write of eleven bytes, and the second call puts it in its place.
+    // The certificate of the empty map takes one write of eleven bytes, and the second call puts it in place.
     let moved = Device::Certificate.failing_at(2);
     let second = Device::Second.failing_at(1);
     let left = (2, "pmpmon: m: line 1 is not understood\n", false, false);

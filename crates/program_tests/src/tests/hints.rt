@@ -1,4 +1,4 @@
-//! What is said of the inputs of a task that ended for bad input.
+//! The hints about the inputs of a task that failed because of bad input.
 
 use command_line::request_of_words;
 use monitor_cli::tell_hints;
@@ -10,7 +10,7 @@ use text_lines::fakes::PieceSource;
 const PLATFORM: &[u8] =
     b"harts = 2\n[monitor]\nbase = 0x80000000\nsize = 0x200000\n[[ram]]\nbase = 0x80000000\nsize = 0x8000000\n";
 
-/// The hints of a command line's task on these inputs.
+/// Returns the hints of a command line's task on these inputs.
 fn hints(rt: &impl Abort, alloc: Global, words: &[&str], first: &[u8], second: &[u8]) -> Vec<u8> {
     let request = request_of_words(alloc, words).expect(rt, "a command line");
     let mut first = Counted::new(first);
@@ -23,7 +23,7 @@ fn hints(rt: &impl Abort, alloc: Global, words: &[&str], first: &[u8], second: &
 /// A command line, its two inputs, and the hints of its task on them.
 type Row<'a> = (&'a [&'a str], &'a [u8], &'a [u8], &'a str);
 
-/// The hints of each command line's task on its inputs are its text.
+/// Asserts the hints of each command line's task on its inputs.
 fn all_hint(rt: &impl Abort, alloc: Global, rows: &[Row<'_>]) {
     for (words, first, second, wanted) in rows {
         let said = hints(rt, alloc, words, first, second);

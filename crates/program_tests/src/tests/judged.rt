@@ -12,7 +12,7 @@ const LARGE: [&str; 6] = ["pmpmon", "judge", "map.txt", "trace.txt", "--entries"
 
 const CHECK: [&str; 4] = ["pmpmon", "check", "map.txt", "map.pmpc"];
 
-/// Each trace has its answers by its map, on a hart of sixteen entries and on one of sixty-four.
+/// Asserts the answers to each trace under its map, on harts with sixteen and with sixty-four entries.
 fn each_is_judged(rt: &impl Abort, alloc: Global, rows: &[(&[u8], &[u8], &str)]) {
     for (map, trace, out) in rows {
         prints(rt, alloc, &JUDGE, map, trace, out);
@@ -40,7 +40,8 @@ fn accesses_are_judged_by_the_entries_of_the_map(rt: HostRuntime) {
     )
 }
 
-/// A map's certificate is accepted for it and refused for another map, and the large one is accepted for the host's map.
+/// Asserts that a map's certificate is accepted for it and refused for another map, and that the large one is accepted
+/// for the host's map.
 fn are_accepted(rt: &impl Abort, alloc: Global, small: (&[u8], &[u8]), other: &[u8], large: &[u8]) {
     prints(rt, alloc, &CHECK, small.0, small.1, "accepted 2\n");
     let refused: Parts<'_> = (1, b"refused ", b"", b"");

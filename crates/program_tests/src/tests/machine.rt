@@ -18,7 +18,7 @@ const RUN: [&str; 4] = ["pmpmon", "run", "p.toml", "trace.txt"];
 
 const MEASURE: [&str; 5] = ["pmpmon", "run", "p.toml", "trace.txt", "--measure"];
 
-/// Each trace has its report, which no measurement follows.
+/// Asserts the report of each trace, without a measurement after it.
 fn each_has_its_report(rt: &impl Abort, alloc: Global, rows: &[(&[u8], &str)]) {
     for (trace, report) in rows {
         prints(rt, alloc, &RUN, PLATFORM, trace, report);
@@ -64,7 +64,7 @@ fn a_line_that_is_not_understood_ends_a_run(rt: HostRuntime) {
     )
 }
 
-/// The value of a hexadecimal digit.
+/// Returns the value of a hexadecimal digit.
 fn digit(byte: u8) -> u64 {
     match byte {
         b'0'..=b'9' => u64::from(byte.saturating_sub(b'0')),
@@ -72,7 +72,7 @@ fn digit(byte: u8) -> u64 {
     }
 }
 
-/// The word that sixteen digits are, as bytes from the lowest on where `is_little`, and otherwise as a number.
+/// Returns the word that sixteen digits spell, as little-endian bytes if `is_little`, otherwise as a number.
 fn word(digits: &[u8], is_little: bool) -> u64 {
     let mut value: u64 = 0;
     for i in 0..8usize {
@@ -93,7 +93,7 @@ fn word(digits: &[u8], is_little: bool) -> u64 {
     value
 }
 
-/// The words that the calls after the first answered, none of them 0, are those of the line that is after all answers.
+/// Asserts that the words in the answers after the first are those of the line after all answers.
 fn are_the_words(rt: &impl Abort, plain: &[u8], line: &[u8]) {
     let answer: &[u8] = b"2 call 0 0x";
     for k in 0..4usize {
@@ -107,7 +107,8 @@ fn are_the_words(rt: &impl Abort, plain: &[u8], line: &[u8]) {
     }
 }
 
-/// After the answers of a run comes one line of its measurement, and it is the one that the calls answered.
+/// Asserts that one line with the measurement follows the answers of a run, and that the calls returned the same
+/// measurement.
 fn is_measured(rt: &impl Abort, plain: &[u8], measured: &[u8]) {
     let line = measured.get(plain.len()..).unwrap_or(&[]);
     are_the_words(rt, plain, line);
@@ -136,7 +137,7 @@ fn harts_are_those_of_the_platform(rt: HostRuntime) {
     stops(&rt, rt.alloc(), &RUN, TWO_HARTS, trace, report, said)
 }
 
-/// Fourteen enclaves of a page, each two pages after the last.
+/// Returns a trace that creates fourteen enclaves of one page, each two pages after the previous one.
 fn scattered(rt: &impl Abort, alloc: Global) -> Vec<u8> {
     let mut trace = Vec::new(alloc);
     for i in 0..14u64 {
@@ -167,14 +168,14 @@ fn entries_are_those_of_the_platform(rt: HostRuntime) {
     )
 }
 
-/// What became of a run that a device ended: this was printed and this said.
+/// Asserts the report and the message of a run that a device ended.
 fn is_ended(rt: &impl Abort, tried: &Tried, report: &str, said: &str) {
     assert!(rt; tried.status == 3);
     assert!(rt; tried.out.as_slice() == report.as_bytes());
     assert!(rt; tried.err.as_slice() == said.as_bytes());
 }
 
-/// Each run whose trace or report fails at a call ends after what it took.
+/// Asserts that each run whose trace or report fails at a call ends after the data transferred so far.
 fn each_ends_behind(
     rt: &impl Abort,
     alloc: Global,

@@ -1,10 +1,10 @@
-//! Names as messages show them.
+//! Names as displayed in messages.
 
 use program_files::shown;
 use std::alloc::Global;
 use std::process::Abort;
 
-/// Each name is shown so.
+/// Asserts how each name is displayed.
 fn are_shown(rt: &impl Abort, alloc: Global, rows: &[(&str, &str)]) {
     for (name, wanted) in rows {
         let text = shown(alloc, name.as_bytes()).expect(rt, "memory");

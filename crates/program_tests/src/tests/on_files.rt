@@ -1,4 +1,4 @@
-//! Requests on their files and streams, with what is said after their ends.
+//! Requests on their files and streams, including the messages afterwards.
 
 use command_line::{Request, request_of_words};
 use monitor_cli::{Lent, perform_on_files};
@@ -7,7 +7,7 @@ use std::process::Abort;
 use std::rt::Files;
 use text_lines::Counted;
 
-/// Does what is asked for, where standard error is no terminal, and answers the status, what was printed and what was said.
+/// Performs a request, with standard error not a terminal, and returns the status, the output and the messages.
 fn done(
     rt: &(impl Abort + Files),
     alloc: Global,
@@ -25,17 +25,17 @@ fn done(
     (status.expect(rt, "memory"), out, err.into_inner())
 }
 
-/// What is wanted of a command line: its status, what it prints and what it says.
+/// The expected status, output and messages of a command line.
 type Wanted<'a> = (u8, &'a str, &'a str);
 
-/// What a command line did is what is wanted of it.
+/// Asserts that a command line did as expected.
 fn is_wanted(rt: &impl Abort, did: (u8, &[u8], &[u8]), wanted: Wanted<'_>) {
     assert!(rt; did.1 == wanted.1.as_bytes(), "{}", wanted.1);
     assert!(rt; did.2 == wanted.2.as_bytes(), "{}", wanted.2);
     assert!(rt; did.0 == wanted.0, "{}", wanted.2);
 }
 
-/// The command line, with that standard input, does what is wanted.
+/// Asserts the effect of a command line with this standard input.
 fn ends_on_files(
     rt: &(impl Abort + Files),
     alloc: Global,

@@ -8,7 +8,7 @@ const PLAN: [&str; 3] = ["pmpmon", "plan", "map.txt"];
 
 const WRITE: [&str; 4] = ["pmpmon", "plan", "map.txt", "map.pmpc"];
 
-/// Each map has this plan.
+/// Asserts the plan of each map.
 fn have_plans(rt: &impl Abort, alloc: Global, rows: &[(&[u8], &str)]) {
     for (map, out) in rows {
         prints(rt, alloc, &PLAN, map, b"", out);
@@ -53,7 +53,7 @@ fn plans_print_the_fewest_entries_and_their_words(rt: HostRuntime) {
     )
 }
 
-/// The certificate of each map is so long.
+/// Asserts the length of each map's certificate.
 fn certificates_are_long(rt: &impl Abort, alloc: Global, rows: &[(&[u8], usize)]) {
     for (map, len) in rows {
         let cert = certificate(rt, alloc, &WRITE, map);

@@ -1,11 +1,11 @@
-//! A command line, run on files in memory.
+//! Runs a command line on files in memory.
 
 use monitor_cli::{command_of, perform};
 use std::alloc::Global;
 use std::process::Abort;
 use text_lines::Counted;
 
-/// What a command left.
+/// The result of a command.
 #[derive(Drop)]
 pub struct Ran {
     pub status: u8,
@@ -39,7 +39,7 @@ pub fn run(rt: &impl Abort, alloc: Global, words: &[&str], first: &[u8], second:
     }
 }
 
-/// What a command line prints that is done.
+/// Returns the output of a command line that succeeds.
 pub fn printed(
     rt: &impl Abort,
     alloc: Global,
@@ -52,14 +52,14 @@ pub fn printed(
     ran.out
 }
 
-/// The certificate that a command line writes for a map.
+/// Returns the certificate that a command line writes for a map.
 pub fn certificate(rt: &impl Abort, alloc: Global, words: &[&str], map: &[u8]) -> Vec<u8> {
     let ran = run(rt, alloc, words, map, b"");
     assert!(rt; ran.status == 0, "{words:?}");
     ran.cert
 }
 
-/// The command line answers this status, prints this and says this. Of what it refuses as bad input it writes no certificate.
+/// Asserts the status, the output and the messages of a command line. For bad input it writes no certificate.
 pub fn ends(
     rt: &impl Abort,
     alloc: Global,
@@ -76,7 +76,7 @@ pub fn ends(
     assert!(rt; status != 2 || ran.cert.is_empty(), "{words:?}");
 }
 
-/// The command line is done, and prints this.
+/// Asserts that the command line succeeds with this output.
 pub fn prints(
     rt: &impl Abort,
     alloc: Global,
@@ -88,7 +88,7 @@ pub fn prints(
     ends(rt, alloc, words, (first, second), 0, out.as_bytes(), b"")
 }
 
-/// The checker or the audit refuses, and prints this.
+/// Asserts that the checker or the audit refuses with this output.
 pub fn denies(
     rt: &impl Abort,
     alloc: Global,
@@ -100,7 +100,7 @@ pub fn denies(
     ends(rt, alloc, words, (first, second), 1, out.as_bytes(), b"")
 }
 
-/// The second input is bad: this is said after the answers to what comes before.
+/// Asserts that the second input is bad: this message follows the answers to what precedes the error.
 pub fn stops(
     rt: &impl Abort,
     alloc: Global,
@@ -121,10 +121,10 @@ pub fn stops(
     )
 }
 
-/// A command line, its two inputs, and the text that it answers with.
+/// A command line, its two inputs, and its output.
 pub type Row<'a> = (&'a [&'a str], &'a [u8], &'a [u8], &'a str);
 
-/// The command line is done with this first input and each second one, and prints its text.
+/// Asserts that the command line succeeds with this first input and each second one, with these outputs.
 pub fn each_prints(
     rt: &impl Abort,
     alloc: Global,
@@ -137,29 +137,29 @@ pub fn each_prints(
     }
 }
 
-/// The checker or the audit refuses each, and prints its text.
+/// Asserts that the checker or the audit refuses each row with its output.
 pub fn all_deny(rt: &impl Abort, alloc: Global, rows: &[Row<'_>]) {
     for (words, first, second, out) in rows {
         denies(rt, alloc, words, first, second, out);
     }
 }
 
-/// The second input of each is bad: the last text is said, after the answers before it.
+/// Asserts that the second input of each row is bad: the last text is the message, after the answers before it.
 pub fn all_stop(rt: &impl Abort, alloc: Global, rows: &[(Row<'_>, &str)]) {
     for ((words, first, second, out), said) in rows {
         stops(rt, alloc, words, first, second, out, said);
     }
 }
 
-/// A status, and what is at the beginning of a text, somewhere within it, and at its end.
+/// A status, and the beginning, a part and the end of a text.
 pub type Parts<'a> = (u8, &'a [u8], &'a [u8], &'a [u8]);
 
-/// Whether a text occurs in another.
+/// Returns whether a text occurs in another.
 fn contains(text: &[u8], part: &[u8]) -> bool {
     text.windows(part.len().max(1)).any(|window| window == part)
 }
 
-/// The command line answers this status, and prints a text of these parts.
+/// Asserts the status of a command line and the parts of its output.
 fn has_parts(rt: &impl Abort, words: &[&str], ran: &Ran, parts: Parts<'_>) {
     let text = ran.out.as_slice();
     assert!(rt; ran.status == parts.0, "{words:?}");
@@ -168,7 +168,7 @@ fn has_parts(rt: &impl Abort, words: &[&str], ran: &Ran, parts: Parts<'_>) {
     assert!(rt; text.ends_with(parts.3), "{words:?}");
 }
 
-/// Each command line answers its status, and prints a text of its parts.
+/// Asserts the status of each command line and the parts of its output.
 pub fn all_have(rt: &impl Abort, alloc: Global, rows: &[(&[&str], &[u8], &[u8], Parts<'_>)]) {
     for (words, first, second, parts) in rows {
         let ran = run(rt, alloc, words, first, second);

@@ -6,8 +6,8 @@ use Rattle.board_texts.specs.Boards.{lines_text, item_text}
 use Rattle.board_texts.proofs.Parts.{next_part}
 use Rattle.board_texts.proofs.map.push_lines.Goals as goal
 
-pub push_item-requires : goal.push_item-requires
-push_item-requires c =
+pub push_item-requires-clause-inside : goal.push_item-requires-clause-inside
+push_item-requires-clause-inside c =
     let are : AreRuns c.ranges-run-items.result.now = rw c.ranges-run-items.ensures.value c.ranges-run-items.ensures.runs in
     ends_small c.ranges-run-items.result.now c.loop-run.run-index _ are c.loop-run-test.true
 

@@ -6,8 +6,8 @@ use Rattle.board_texts.specs.Platforms.{tables_text, part_text}
 use Rattle.board_texts.proofs.Parts.{next_part}
 use Rattle.board_texts.proofs.platform_lines.push_tables.Goals as goal
 
-pub push_part-requires : goal.push_part-requires
-push_part-requires c =
+pub push_part-requires-clause-inside : goal.push_part-requires-clause-inside
+push_part-requires-clause-inside c =
     let are : AreRuns c.ranges-run-items.result.now = rw c.ranges-run-items.ensures.value c.ranges-run-items.ensures.runs in
     ends_small c.ranges-run-items.result.now c.loop-run.run-index _ are c.loop-run-test.true
 

@@ -15,7 +15,7 @@ pub loop-i-preserved : goal.loop-i-preserved
 loop-i-preserved c =
     let settings = c.args.settings.now in
     let i = c.loop-i.i in
-    let less : i < length settings = omega (arith, c.loop-i-test.true, c.min-i-end.ensures) in
+    let less : i < length settings = omega (arith, c.loop-i-test.true, c.looked_at-i-end.ensures.most) in
     rw c.in_ok-push.ensures.items
     (more i (get_or settings i _) c.in_ok-fewest.fewest c.loop-i.costs.items c.loop-i.invariant (drop_more settings i _ less)
     (rw (rest_from (i + 1) settings) at c.in_ok-fewest.ensures))

@@ -17,7 +17,7 @@ returns-in_err-print_section g c =
     (writing g.W.Sink.contents g.W.Sink.failures g.W.Sink.stalls c.args.out.now c.print_section.new.out) = c.in_err-print_section.ensures in
     rw (err_from_is_err_and c.from_residual.result c.from_residual.ensures.1).1
     (in_first g.W.Sink.contents g.W.Sink.failures g.W.Sink.stalls (json_map_begin ++ rows_text (json_name_row name) 0 (length name))
-    (json_entries_begin xlen limit start ++ rows_text (json_entry_row xlen start entries) 0 (length entries))
+    (json_entries_begin xlen limit start (length entries) ++ rows_text (json_entry_row xlen start entries) 0 (length entries))
     (json_words_begin ++ rows_text (json_word_row xlen start entries) 0 c.args.count) (codes "\n  ]\n}\n") first)
 
 pub returns-in_err-print_section-2 : goal.returns-in_err-print_section-2
@@ -29,12 +29,12 @@ returns-in_err-print_section-2 g c =
     let start = c.args.first in
     let first : TakesAll (json_map_begin ++ rows_text (json_name_row name) 0 (length name))
     (writing g.W.Sink.contents g.W.Sink.failures g.W.Sink.stalls c.args.out.now c.print_section.new.out) = c.in_ok-print_section.ensures in
-    let second : Breaks (json_entries_begin xlen limit start ++ rows_text (json_entry_row xlen start entries) 0 (length entries))
+    let second : Breaks (json_entries_begin xlen limit start (length entries) ++ rows_text (json_entry_row xlen start entries) 0 (length entries))
     (writing g.W.Sink.contents g.W.Sink.failures g.W.Sink.stalls c.print_section.new.out c.print_section-2.new.out) =
     rw c.entries_begin-begin.ensures at (rw c.as_slice.ensures.value at c.in_err-print_section-2.ensures) in
     rw (err_from_is_err_and c.from_residual-in_err-print_section-2.result c.from_residual-in_err-print_section-2.ensures.1).1
     (in_second g.W.Sink.contents g.W.Sink.failures g.W.Sink.stalls (json_map_begin ++ rows_text (json_name_row name) 0 (length name))
-    (json_entries_begin xlen limit start ++ rows_text (json_entry_row xlen start entries) 0 (length entries))
+    (json_entries_begin xlen limit start (length entries) ++ rows_text (json_entry_row xlen start entries) 0 (length entries))
     (json_words_begin ++ rows_text (json_word_row xlen start entries) 0 c.args.count) (codes "\n  ]\n}\n") first second)
 
 pub returns-in_err-print_section-3 : goal.returns-in_err-print_section-3
@@ -46,7 +46,7 @@ returns-in_err-print_section-3 g c =
     let start = c.args.first in
     let first : TakesAll (json_map_begin ++ rows_text (json_name_row name) 0 (length name))
     (writing g.W.Sink.contents g.W.Sink.failures g.W.Sink.stalls c.args.out.now c.print_section.new.out) = c.in_ok-print_section.ensures in
-    let second : TakesAll (json_entries_begin xlen limit start ++ rows_text (json_entry_row xlen start entries) 0 (length entries))
+    let second : TakesAll (json_entries_begin xlen limit start (length entries) ++ rows_text (json_entry_row xlen start entries) 0 (length entries))
     (writing g.W.Sink.contents g.W.Sink.failures g.W.Sink.stalls c.print_section.new.out c.print_section-2.new.out) =
     rw c.entries_begin-begin.ensures at (rw c.as_slice.ensures.value at c.in_ok-print_section-2.ensures) in
     let third : Breaks (json_words_begin ++ rows_text (json_word_row xlen start entries) 0 c.args.count)
@@ -54,7 +54,7 @@ returns-in_err-print_section-3 g c =
     c.in_err-print_section-3.ensures in
     rw (err_from_is_err_and c.from_residual-in_err-print_section-3.result c.from_residual-in_err-print_section-3.ensures.1).1
     (in_third g.W.Sink.contents g.W.Sink.failures g.W.Sink.stalls (json_map_begin ++ rows_text (json_name_row name) 0 (length name))
-    (json_entries_begin xlen limit start ++ rows_text (json_entry_row xlen start entries) 0 (length entries))
+    (json_entries_begin xlen limit start (length entries) ++ rows_text (json_entry_row xlen start entries) 0 (length entries))
     (json_words_begin ++ rows_text (json_word_row xlen start entries) 0 c.args.count) (codes "\n  ]\n}\n") first second third)
 
 pub returns-in_err-write_whole : goal.returns-in_err-write_whole
@@ -66,7 +66,7 @@ returns-in_err-write_whole g c =
     let start = c.args.first in
     let first : TakesAll (json_map_begin ++ rows_text (json_name_row name) 0 (length name))
     (writing g.W.Sink.contents g.W.Sink.failures g.W.Sink.stalls c.args.out.now c.print_section.new.out) = c.in_ok-print_section.ensures in
-    let second : TakesAll (json_entries_begin xlen limit start ++ rows_text (json_entry_row xlen start entries) 0 (length entries))
+    let second : TakesAll (json_entries_begin xlen limit start (length entries) ++ rows_text (json_entry_row xlen start entries) 0 (length entries))
     (writing g.W.Sink.contents g.W.Sink.failures g.W.Sink.stalls c.print_section.new.out c.print_section-2.new.out) =
     rw c.entries_begin-begin.ensures at (rw c.as_slice.ensures.value at c.in_ok-print_section-2.ensures) in
     let third : TakesAll (json_words_begin ++ rows_text (json_word_row xlen start entries) 0 c.args.count)
@@ -74,7 +74,7 @@ returns-in_err-write_whole g c =
     c.in_ok-print_section-3.ensures in
     rw (err_from_is_err_and c.from_residual-in_err-write_whole.result c.from_residual-in_err-write_whole.ensures.1).1
     (in_fourth g.W.Sink.contents g.W.Sink.failures g.W.Sink.stalls (json_map_begin ++ rows_text (json_name_row name) 0 (length name))
-    (json_entries_begin xlen limit start ++ rows_text (json_entry_row xlen start entries) 0 (length entries))
+    (json_entries_begin xlen limit start (length entries) ++ rows_text (json_entry_row xlen start entries) 0 (length entries))
     (json_words_begin ++ rows_text (json_word_row xlen start entries) 0 c.args.count) (codes "\n  ]\n}\n") first second third c.in_err-write_whole.ensures)
 
 pub returns : goal.returns
@@ -86,12 +86,12 @@ returns g c =
     let start = c.args.first in
     let first : TakesAll (json_map_begin ++ rows_text (json_name_row name) 0 (length name))
     (writing g.W.Sink.contents g.W.Sink.failures g.W.Sink.stalls c.args.out.now c.print_section.new.out) = c.in_ok-print_section.ensures in
-    let second : TakesAll (json_entries_begin xlen limit start ++ rows_text (json_entry_row xlen start entries) 0 (length entries))
+    let second : TakesAll (json_entries_begin xlen limit start (length entries) ++ rows_text (json_entry_row xlen start entries) 0 (length entries))
     (writing g.W.Sink.contents g.W.Sink.failures g.W.Sink.stalls c.print_section.new.out c.print_section-2.new.out) =
     rw c.entries_begin-begin.ensures at (rw c.as_slice.ensures.value at c.in_ok-print_section-2.ensures) in
     let third : TakesAll (json_words_begin ++ rows_text (json_word_row xlen start entries) 0 c.args.count)
     (writing g.W.Sink.contents g.W.Sink.failures g.W.Sink.stalls c.print_section-2.new.out c.print_section-3.new.out) =
     c.in_ok-print_section-3.ensures in
     all_four g.W.Sink.contents g.W.Sink.failures g.W.Sink.stalls (json_map_begin ++ rows_text (json_name_row name) 0 (length name))
-    (json_entries_begin xlen limit start ++ rows_text (json_entry_row xlen start entries) 0 (length entries))
+    (json_entries_begin xlen limit start (length entries) ++ rows_text (json_entry_row xlen start entries) 0 (length entries))
     (json_words_begin ++ rows_text (json_word_row xlen start entries) 0 c.args.count) (codes "\n  ]\n}\n") first second third c.in_ok-write_whole.ensures

@@ -1,4 +1,4 @@
--- What the prover finds by itself, written down for the edits that break it (docs/DECISIONS.md, 268).
+-- Steps that the prover finds without help, written out for the must-fail edits that break them.
 use Rattle.std.proofs.Common.{rules}
 use Rattle.planner_for_c.proofs.access.mode_of.Goals as goal
 

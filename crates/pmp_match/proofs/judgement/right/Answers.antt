@@ -1,4 +1,4 @@
--- What the prover finds by itself, written down for the edits that break it (docs/DECISIONS.md, 268).
+-- What the prover finds by itself, written down for the edits that break it.
 use Rattle.std.proofs.Common.{rules}
 use Rattle.pmp_match.proofs.judgement.right.Goals as goal
 

@@ -1,4 +1,4 @@
--- What the prover finds by itself, written down for the edits that break it (docs/DECISIONS.md, 268).
+-- Steps that the prover finds without help, written out for the must-fail edits that break them.
 use Rattle.std.proofs.Common.{rules}
 use Rattle.trap_server.proofs.trap_loop.others.Goals as goal
 

@@ -1,0 +1,15 @@
+pub mod Changes
+pub mod Lower
+pub mod ChainGiven
+pub mod Shortest
+pub mod Means
+pub mod TurnLists
+pub mod Filled
+pub mod PagesGiven
+pub mod Assembled
+pub mod KeysLeast
+pub mod Bounded
+pub mod Walks
+pub mod TopsMade
+pub mod Planned
+pub mod Spelled

@@ -1,0 +1,10 @@
+pub mod ChainCosts
+pub mod Chained
+pub mod Spelled
+pub mod Painted
+pub mod Turns
+pub mod Placed
+pub mod Sixes
+pub mod Keys
+pub mod Choices
+pub mod ChainPlans
