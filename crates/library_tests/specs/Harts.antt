@@ -55,10 +55,12 @@ pub record QemuConfines : Type 0 where
 abbrev pub fixing : ControlWords → ControlRegisters
 fixing words = record qemu_hart { fixed = words }
 
--- under some host a hart does not confine an enclave: whatever happened on a board before, after a
--- trap whose answer has an enclave's control words under this host
+-- under some host the words that a hart holds for an enclave do not confine it. So, whatever
+-- happened on a board before, no trap whose answer has an enclave's control words under this host
+-- confines it
 abbrev pub LeavesOpen : ControlRegisters → Type 0
 LeavesOpen registers = (host : HostWords)
+    × (Confines (held registers (enclave_words host)) → ⊥)
     × ((layout : PlatformLayout) (opened : List ℕ) (events : List BoardEvent) (old : Board)
     (trap : Trap) (frame read question answered : List ℕ) (new : Board)
     → BoardRun layout opened events old → DoesTrap old trap frame read question answered new

@@ -17,6 +17,7 @@ apart n is = cc
 opens : (registers : ControlRegisters) → (Confines (held registers (enclave_words open_host)) → ⊥) → LeavesOpen registers
 opens registers never = (
   open_host,
+  never,
   λ layout opened events old trap frame read question answered new run x same says confines.
       never (subst Confines
       (x.duties.control.gets (enclave_words open_host) says ∙ ap (λ (hart : ControlRegisters). held hart (enclave_words open_host)) same) confines),
