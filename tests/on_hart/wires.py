@@ -11,7 +11,7 @@ from pathlib import Path
 
 QEMU = "qemu-system-riscv64"
 # The line that the boot prints before it enters the host.
-START = re.compile(r"\Amonitor: pmpmon \d+\.\d+\.\d+, ([1-4]) harts?, (16|64) entries; (the host is|no host is loaded) at (0x[0-9a-f]{16})\n")
+START = re.compile(r"^monitor: pmpmon \d+\.\d+\.\d+, ([1-4]) harts?, (16|64) entries; (the host is|no host is loaded) at (0x[0-9a-f]{16})\n", re.M)
 
 
 def without_start(said):
