@@ -42,7 +42,24 @@ plans() {
 }
 
 names_its_commit() {
-    grep -q "^commit $(git -C "$here" rev-parse HEAD)" "$work/there/share/doc/pmpmon/BUILD" && grep -q '^kit rattle-kit' "$work/there/share/doc/pmpmon/BUILD"
+    grep -q "^commit $(git -C "$here" rev-parse HEAD)" "$work/one/BUILD" && grep -q '^kit rattle-kit' "$work/one/BUILD" &&
+        cmp "$work/one/BUILD" "$work/there/share/doc/pmpmon/BUILD"
+}
+
+# ldd says so of a program that needs no loader.
+is_static() {
+    ldd "$work"/one/pmpmon-*-static 2>&1 | grep -q 'not a dynamic executable'
+}
+
+# Prints the answers of a program without an environment, and the sum of the certificate that it writes.
+answers() {
+    local map=$work/there/share/doc/pmpmon/examples/example-host.map
+    env -i "$1" plan "$map" "$work/certificate" && env -i "$1" check "$map" "$work/certificate" && cksum <"$work/certificate" &&
+        env -i "$1" --version
+}
+
+answers_alike() {
+    answers "$work"/one/pmpmon-*-static >"$work/static-answers" && answers "$work/there/bin/pmpmon" | diff - "$work/static-answers"
 }
 
 # Each link of its documents, except those to the web and within a document, leads to a file of the tar file.
@@ -72,6 +89,12 @@ try 'the sums are right' sh -c "cd '$work/one' && sha256sum -c SHA256SUMS"
 try 'the tar file can be unpacked' unpacked
 try 'its program plans its example' plans
 try 'BUILD names commit and kit' names_its_commit
+if [ -f "$(gcc -print-file-name=libc.a)" ]; then
+    try 'the static program needs no loader' is_static
+    try 'the static program answers as the other one' answers_alike
+else
+    echo 'left out: the static program (no static C library for gcc here)'
+fi
 try 'the links of its documents lead somewhere' links_lead
 if command -v dpkg-deb >/dev/null; then
     try 'the package has the program' sh -c "dpkg-deb -c '$work'/one/pmpmon_*.deb | grep -q ' ./usr/bin/pmpmon$'"
