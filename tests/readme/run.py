@@ -5,8 +5,8 @@ the Linux session.
   tests/readme/run.py PROGRAM
 
 A command is a line of a block that begins with `$ `. Its output is below it, up to the next command or the end of the block; a line
-`...` matches any lines. Commands that need a hart are skipped if there is none. The commands of a document see the files that earlier
-ones made, and the examples. The last line printed is 'N passed, M failed'.
+`...` matches any lines. If a section's commands use a tool that is not installed, the section is skipped, and a line reports it. The
+commands of a document see the files that earlier ones made, and the examples. The last line printed is 'N passed, M failed'.
 """
 import re
 import shutil
@@ -20,7 +20,9 @@ sys.dont_write_bytecode = True
 from counting import Count  # noqa: E402
 
 TOP = Path(__file__).resolve().parents[2]
-HAS_HART = all(shutil.which(it) for it in ("qemu-system-riscv64", "riscv64-unknown-elf-gcc"))
+# Tools that a machine with the tests may lack, by the text of a command that needs them.
+HART = ("qemu-system-riscv64", "riscv64-unknown-elf-gcc")
+TOOLS = {"pmpmon-on-hart": HART, "app.elf": HART[1:], "elf_map": ("readelf",), **{it: (it,) for it in (*HART, "dtc", "gcc")}}
 
 
 def commands(text):
@@ -49,19 +51,28 @@ def without_linux(text):
     return re.sub(r"^## An enclave in C on Linux\n.*?(?=^## |\Z)", "", text, flags=re.M | re.S)
 
 
+def lacking(typed):
+    """Returns the tools that some commands need and that are not installed."""
+    needed = {tool for text, tools in TOOLS.items() for tool in tools if any(text in command for command, _ in typed)}
+    return sorted(it for it in needed if not shutil.which(it))
+
+
 def tried(document, program):
-    """Runs each command of a document, and yields whether its output matches, and the output."""
+    """Runs the commands of each section of a document, and yields whether the output matches, and the output."""
     with tempfile.TemporaryDirectory() as made:
         folder = Path(made)
         (folder / "examples").symlink_to(TOP / "examples")
         (folder / "pmpmon").symlink_to(program)
         (folder / "pmpmon-on-hart").symlink_to(TOP / "pmpmon-on-hart")
-        for command, lines in commands(without_linux(document.read_text())):
-            if "pmpmon-on-hart" in command and not HAS_HART:
-                print(f"left out: {command}, for want of QEMU or the compiler for RV64")
+        for section in re.split(r"(?m)^(?=## )", without_linux(document.read_text())):
+            typed = list(commands(section))
+            missing = lacking(typed)
+            if missing:
+                print(f"left out: {document.name}, {section.splitlines()[0]}: {', '.join(missing)} not installed")
                 continue
-            told = subprocess.run(["bash", "-c", command], cwd=folder, capture_output=True, text=True)
-            yield command, is_told(lines, told.stdout + told.stderr), told.stdout + told.stderr
+            for command, lines in typed:
+                told = subprocess.run(["bash", "-c", command], cwd=folder, capture_output=True, text=True)
+                yield command, is_told(lines, told.stdout + told.stderr), told.stdout + told.stderr
 
 
 def main():
