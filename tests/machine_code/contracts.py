@@ -1,5 +1,7 @@
 """What a fact may assume of a callee instead of running it. The callee's own fact proves the same contract (`Proof.keeps_contract`), and
 run.py fails if a fact assumes a contract that no fact of this run has proved and that has no stated reason."""
+import z3
+
 from rv64 import MSTATUS
 
 PMP = (0x3a0, 0x3a2, *range(0x3b0, 0x3c0))
@@ -46,8 +48,29 @@ def contracts_of(layout):
     served = [("worlds", world.action, layout.action.size_of), *changes, ("worlds", world.fences_asked, 4),
               ("register_sets", registers.x + 80, 16), ("register_sets", registers.pc, 8)]
     heap = [(it, 0, 8) for it in ("heap_calls", "heap_blocks", "heap_most")] + [("kept", 0, None)]
+    arena = [(it, 0, 8) for it in ("heap_most", "arena", "arena_size")] + [("kept", 0, None)]
+    found, tests = ("found", 0, None), [("given", 0, None), ("got", 0, None)]
+    support = [("worlds", world.lacks, 4), ("worlds", world.floats_kind, 2), ("around has_stimecmp", 0, None)]
+    trial = (MSTATUS, 0x341, 0x342, 0x343)  # by a look at a register that may be missing, which leaves mtvec as it was
+    entered = [("worlds", 0, None), ("register_sets", 0, None), ("harts", 0, None)]
     return {
         "take": Contract(1, [*heap, ("fresh", layout.block.__dict__["class"], 8)]),
+        "begin_heap": Contract(2, arena),
+        "host_memory_at": Contract(1),
+        "read_tree": Contract(1, [found, *heap]),
+        "find_board": Contract(1, [found, *heap, *arena, ("platform", 0, 8)]),
+        "differ": Contract(3),
+        "read_bank": Contract(1, [block]),
+        "clear_beyond": Contract(0, [], (*trial, *range(0x3a0, 0x3b0, 2))),
+        "check_entries": Contract(0, tests, (*trial, *PMP, 0x747, *range(0x3a0, 0x3b0, 2))),
+        "control_find": Contract(0, support, (*trial, 0x306, 0x30a, 0x30c, 0x30d, 0x30e, 0x30f, 0x10c, FCSR)),
+        "control_at_start": Contract(0, [hosts, floats], (*control, MIP, STIMECMP, FCSR)),
+        "floats_at_start": Contract(1, [floats], (MSTATUS, FCSR)),
+        "host_timer_begin": Contract(0, [], (MIP, STIMECMP)),
+        "tell_start": Contract(1),
+        "unpark": Contract(1, [("worlds", world.is_wanted, 4)]),
+        "start_others": Contract(0, [("start", 0, None)]),
+        "put_trap": Contract(3, [("frame", 0, None)], returns=lambda world, tag, frame: z3.BitVecVal(layout.trap_frame.size_of, 64)),
         "memset": Contract(3, [block], returns=lambda to, value, n: to),
         "memcpy": Contract(3, [block], returns=lambda to, source, n: to),
         "is_worlds": Contract(1),
@@ -73,10 +96,13 @@ def contracts_of(layout):
         "host_timer_came": Contract(0, [], (MIP,)),
         "fence_harts": Contract(2, [("worlds", world.requests, 4), ("worlds", world.fences_asked, 4), ("worlds", world.fences_made, 4)]),
         "interrupt_harts": Contract(1, [("worlds", world.requests, 4)], (MIP,)),
-        **{it: Contract(1, reason="it waits for the serial port, and writes to it alone") for it in ("put_char", "put", "put_number")},
+        **{it: Contract(1) for it in ("put_char", "put", "put_digits", "put_number", "put_hex")},
         "serve_alone": Contract(1, served, (MSTATUS, *TO_HANDLER, MIP, STIMECMP, *PMP)),
+        **{it: Contract(1, entered, reason="other harts run meanwhile: `monitor_left_and_taken` says what the next one finds") for it in ("run_world", "park")},
         "next_trap": Contract(1, reason="the hart runs a world here: any trap may come"),
         "read_page": Contract(1, [("next_page", 0, 8), block]),
         "pmpmon_decide": Contract(7, [("worlds", world.action, layout.action.size_of)],
                                   reason="it belongs to the proved core, which writes the action and the copy of the states alone"),
+        "pmpmon_find_platform": Contract(3, [found, *heap], reason="it belongs to the proved core, which writes the platform and its heap alone"),
+        "pmpmon_put_host_tree": Contract(5, heap, reason="it belongs to the proved core, which writes the tree and its heap alone"),
     }

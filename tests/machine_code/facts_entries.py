@@ -39,11 +39,10 @@ def entries_loaded(p):
 def entries_read(p):
     """read_bank stores pmpaddr0 to pmpaddr15 and both words of configuration in the list, and changes nothing else."""
     layout = p.layout.bank
-    bank = p.room("bank", layout.size_of)
+    bank = p.room("block", layout.size_of)
     state = p.begin("read_bank", bank.base)
     for end in p.run(state):
-        p.keeps_abi(end)
-        p.csrs_only(end)
+        p.keeps_contract(end)
         p.same(end, [(p.now(end, bank, layout.addr + 8 * n), p.start.get_csr(0x3b0 + n)) for n in range(16)], "pmpaddr")
         p.same(end, [(p.now(end, bank, layout.cfg + 8 * n), p.start.get_csr(0x3a0 + 2 * n)) for n in (0, 1)], "pmpcfg")
         p.writes_only(end, (bank, bv(0), [*range(layout.cfg, layout.cfg + 16), *range(layout.addr, layout.addr + 128)]))
@@ -57,10 +56,9 @@ def entries_beyond_cleared(p):
     p.m.exists.update(there)
     state.csr[MTVEC] = var("mtvec")
     for end in p.run(state):
-        p.keeps_abi(end)
+        p.keeps_contract(end)
         p.writes_only(end)
         p.fact(end, end.get_csr(MTVEC) == var("mtvec"), "mtvec")
-        p.csrs_only(end, MTVEC, 0x300, 0x341, 0x342, 0x343, *there)
         reached = z3.BoolVal(True)
         for number, is_there in there.items():
             reached = z3.And(reached, is_there)

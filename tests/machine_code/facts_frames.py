@@ -31,7 +31,7 @@ def trap_framed(p):
     state.path.append(z3.ULT(which, sets.count))
     p.put(state, worlds, p.layout.world.registers, p.set_at(which), p.hart)
     for end in p.run(state):
-        p.keeps_abi(end)
+        p.keeps_contract(end)
         expected = [var("tag"), p.hart] + [p.start.word(sets, which, 8 * (A0 + n)) for n in range(8)]
         expected += [p.start.get_csr(0x304), p.start.get_csr(0x106)]
         p.same(end, [(p.now(end, frame, 8 * n), term) for n, term in enumerate(expected)], "the words of the frame")

@@ -72,8 +72,7 @@ def hart_unparked(p):
     state = p.begin("unpark", hart)
     state.path.append(z3.ULT(hart, MOST_HARTS))
     for end in p.run(state):
-        p.keeps_abi(end)
-        p.csrs_only(end)
+        p.keeps_contract(end)
         p.fact(end, p.now(end, worlds, layout.is_wanted, 4, hart) == 1, "is_wanted")
         p.fact(end, p.now(end, worlds, layout.is_out, 4, hart) == p.first(worlds, layout.is_out, 4, hart), "is_out")
         order = [it for it in end.log if it[0] == "fence" or it[0] == "store" and it[1] != "stack"]

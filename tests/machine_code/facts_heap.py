@@ -142,8 +142,7 @@ def heap_begun(p):
     state = p.begin("begin_heap", var("at"), var("size"))
     own = bv(p.address("own_arena"))
     for end in p.run(state):
-        p.keeps_abi(end)
-        p.csrs_only(end)
+        p.keeps_contract(end)
         p.same(end, [(p.now(end, heap["kept"], 0, index=bv(n)), bv(0)) for n in range(heap["kept"].count)], "the lists")
         given = var("at") != 0
         p.fact(end, z3.And(p.now(end, heap["heap_most"], 0) == 0, p.now(end, heap["arena"], 0) == z3.If(given, var("at"), own),

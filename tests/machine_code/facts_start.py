@@ -1,7 +1,7 @@
 """Facts of start.S: how a hart begins."""
 import z3
 
-from proof import MSCRATCH, SP, var
+from proof import MSCRATCH, RA, SP, var
 from rv64 import MSTATUS, MTVEC, Failed, Space, bv
 
 TSELECT, TDATA1, MISA = 0x7a0, 0x7a1, 0x301
@@ -56,7 +56,8 @@ def triggers_closed(p):
 def hart_begins(p):
     """_start, after the triggers: MDT, MPRV and MIE of mstatus are zero, and the hart goes on if misa is zero or has M, A and C. On hart 0 each
     word of bss becomes zero, then each word of the monitor's stack gets the mark, and then boot is called on that stack with a0 and a1
-    as the earlier stage left them. A trap goes to `trap` from before that on. The list of private ranges is in neither. Both loops are
+    as the earlier stage left them. The proved loop follows on the same stack, and its result goes to `served`. A trap goes to `trap` from
+    before that on. The list of private ranges is in neither. Both loops are
     proved for the word of any index. Another hart goes to `other`."""
     state = p.begin("_start")
     state.pc, state.x[S0] = place(p, "_start", "csrrs", MISA) - 4, bv(OF_EARLIER)
@@ -82,6 +83,11 @@ def hart_begins(p):
             end = each_word(p, end, "bss", "bss_start", "bss_end", 0)
             end = each_word(p, end, "stack", "stack_start", "stack_end", MARK)
             p.fact(end, z3.And(z3.BoolVal(end.end == "boot"), end.x[SP] == p.address("stack_end"), end.x[10] == p.old.x[10], end.x[11] == p.old.x[11]), "boot")
+            for callee in ("pmpmon_serve", "served"):
+                after = p.go_on(end, end.x[RA].as_long())
+                result, p.m.ends = after.x[10], {callee: bv(p.address(callee))}
+                end, = p.round(after)
+                p.fact(end, z3.And(z3.BoolVal(end.end == callee), end.x[SP] == p.address("stack_end"), end.x[10] == result), f"{callee} follows")
     listed = p.address("private_ranges")
     p.fact(state, not p.address("bss_start") - 24 * 64 < listed < p.address("stack_end"), "the list of private ranges")
 

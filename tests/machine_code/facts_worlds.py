@@ -279,7 +279,7 @@ def registers_found(p):
         p.fact(end, is_wrong == z3.BoolVal(end.end == "board"), "when the board ends")
         if end.end == "board":
             continue
-        p.keeps_abi(end)
+        p.keeps_contract(end)
         p.fact(end, end.get_csr(MTVEC) == var("mtvec"), "mtvec")
         for n, (name, number) in enumerate(CONTROL.items()):
             bit = z3.Extract(n, n, p.now(end, worlds, layout.lacks, 4, p.hart))

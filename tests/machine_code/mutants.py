@@ -7,6 +7,7 @@ They are those of tests/on_hart/mutants.py and NEW. Each is built for one hart, 
 nothing else is tried. A mutant for which they all hold goes through the tests of tests/on_hart/mutants.py. --new leaves out the others.
 The last line reports how many survived.
 """
+import functools
 import re
 import subprocess
 import sys
@@ -45,14 +46,37 @@ NEW = [
     ("registers.c", "it < answer->changes + 3; it++)", "it < answer->changes + 2; it++)", "sets_changed"),
     ("harts.c", "    __atomic_store_n(&self->fences_made, asked, __ATOMIC_RELEASE);\n", "    __atomic_store_n(&self->fences_made, asked + 1, __ATOMIC_RELEASE);\n", "requests_taken"),
     ("reset.c", "page - range->first < range->count;", "page - range->first <= range->count;", "private_page_known"),
+    ("board.c", "        if (at - monitor < platform->monitor_size)\n            return 0;\n", "", "memory_known"),
+    ("board.c", "(at < monitor && monitor < end ? monitor : end) - at", "end - at", "memory_known"),
+    ("board.c", "    return fault ? fault : pmpmon_put_host_tree(", "    return fault == NEEDS_MEMORY ? fault : pmpmon_put_host_tree(", "tree_read"),
+    ("board.c", "    if (heap_blocks)\n        fault = NEEDS_MEMORY;\n", "", "board_found"),
+    ("board.c", "    platform = &found;\n", "", "board_found"),
+    ("board.c", "host_memory_at(tree - MORE_HEAP) >= MORE_HEAP", "host_memory_at(tree - MORE_HEAP) > 0", "board_found"),
+    ("board.c", "MORE_HEAP);\n        found = *built;\n", "MORE_HEAP);\n", "board_found"),
+    ("traps.c", "    forget_private();\n    find_board(tree);\n", "    find_board(tree);\n", "boot_ordered"),
+    ("traps.c", "    tell_start(HOST_ENTRY);\n    start_others();\n", "    start_others();\n    tell_start(HOST_ENTRY);\n", "host_begins"),
+    ("traps.c", "        world->cause = INTERRUPT | 3;\n", "        world->cause = 3;\n", "served_with_lock"),
+    ("traps.c", "    return is_started(this_hart()) ? run(world) : park(world);", "    return run(world);", "served_with_lock"),
+    ("traps.c", "    if (stack_guard != STACK_MARK)", "    if (!stack_guard)", "trap_awaited"),
+    ("traps.c", "world->action.kind == ENCLAVE_CALL ? TAG_CALL : TAG_STOP", "world->action.kind == ENCLAVE_CALL ? TAG_STOP : TAG_CALL", "trap_awaited"),
+    ("harts.c", "    for (uint64_t hart = 1; hart < hart_count(); hart++)\n        wait_for(hart);\n", "    wait_for(1);\n", "others_let_in"),
+    ("entries.c", "i % 2 == round ? all : LOWEST_PAGE", "round ? all : LOWEST_PAGE", "entries_checked"),
+    ("entries.c", "    while (bits < end >> 2)\n", "    while (bits < end >> 3)\n", "entries_checked"),
+    ("control.c", "    .scounteren = COUNTERS,\n", "", "control_begins"),
+    ("floats.c", "sizeof self->registers->f + sizeof self->registers->fcsr);", "sizeof self->registers->f);", "floats_begin"),
+    ("timer.c", "    timer_off();\n    host_timer_at(~0ul);\n", "    host_timer_at(~0ul);\n", "timer_begins"),
+    ("uart.c", "status ? 0x13333 : 0x5555", "status ? 0x5555 : 0x13333", "power_switched"),
+    ("memory.c", "            return *x - *y;", "            return *y - *x;", "bytes_compared"),
+    ("start.S", "    fence   rw, rw\n    j       enter_as_trapped", "    j       enter_as_trapped", "other_begins"),
 ]
 
 
 def facts_of(name, first):
     """The facts of a mutant's file, the one that its row names first."""
-    subjects = {"trap.S": "traps entries waits", "pmp.S": "entries", "registers.c": "worlds", "floats.c": "worlds", "control.c": "worlds", "serve.c": "frames",
-                "traps.c": "alone frames traps", "harts.c": "harts waits entries", "board.h": "alone", "reset.c": "reset", "entries.c": "entries",
-                "timer.c": "alone", "memory.c": "memory", "heap.c": "heap"}.get(name, "").split()
+    subjects = {"trap.S": "traps entries waits", "pmp.S": "entries", "start.S": "start devices", "registers.c": "worlds", "floats.c": "worlds devices",
+                "control.c": "worlds devices", "serve.c": "frames loop", "traps.c": "alone loop boot frames traps", "harts.c": "harts waits entries boot",
+                "board.h": "alone loop", "reset.c": "reset loop", "entries.c": "entries devices", "timer.c": "alone devices", "memory.c": "memory devices",
+                "heap.c": "heap", "board.c": "boot", "uart.c": "devices"}.get(name, "").split()
     found = [it for subject in subjects for it in re.search(r"(?s)\nPROOFS = \[(.*?)\]", (HERE / f"facts_{subject}.py").read_text())[1].replace("\n", " ").replace(" ", "").split(",")]
     return ([first] if first in found else []) + [it for it in found if it != first]
 
@@ -75,25 +99,25 @@ def failing_fact(folder, number, mutant):
     return ""
 
 
+def reason(folder, number, mutant):
+    """The fact, or otherwise the test on QEMU, that fails on a mutant, or ''."""
+    why = failing_fact(folder, number, mutant)
+    if why or "--facts" in sys.argv:
+        return why
+    first = mutant[3] if mutant[3] in on_hart.LOOKS else "host"
+    return on_hart.judged(bench(folder), on_hart.four_harts(folder), number, (*mutant[:3], first))
+
+
+@functools.cache
+def bench(folder):
+    """The payloads of the tests on QEMU, built for the first mutant that needs them."""
+    return on_hart.Bench(folder)
+
+
 def main():
-    words = [it for it in sys.argv[1:] if not it.startswith("--")]
-    rows = [*([] if "--new" in sys.argv else on_hart.MUTANTS), *NEW]
-    wanted = [(i, it) for i, it in enumerate(rows) if not words or any(word in it[0] + it[1] for word in words)]
-    survived = 0
+    rows = on_hart.wanted([*([] if "--new" in sys.argv else on_hart.MUTANTS), *NEW])
     with tempfile.TemporaryDirectory() as place:
-        folder = Path(place)
-        four = folder / "four.toml"
-        four.write_text((FIRMWARE / "platform.toml").read_text().replace("harts = 1\n", "harts = 4\n"))
-        bench = None
-        for number, mutant in wanted:
-            why = failing_fact(folder, number, mutant)
-            if not why and "--facts" not in sys.argv:
-                bench = bench or on_hart.Bench(folder)
-                first = mutant[3] if mutant[3] in on_hart.LOOKS else "host"
-                why = on_hart.judged(bench, four, number, (*mutant[:3], first))
-            survived += not why
-            print(f"{'failed ' + why if why else 'SURVIVED'}: {mutant[0]}: {mutant[1].strip().splitlines()[0][:90]}", flush=True)
-    print(f"{survived} of {len(wanted)} survived")
+        on_hart.report(rows, (reason(Path(place), *it) for it in rows))
 
 
 if __name__ == "__main__":

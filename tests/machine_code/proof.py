@@ -1,4 +1,6 @@
 """A proof: it runs code of the ELF from every state that its premises allow, and states facts of each state in which a path ends."""
+import re
+
 import z3
 
 from contracts import contracts_of
@@ -38,10 +40,12 @@ class Proof:
     # Spaces.
 
     def address(self, name):
-        """Returns the address of a symbol; the symbol of a local static variable has a number at its end."""
+        """Returns the address of a symbol; that of a local static variable has a number at its end, and that of a function of which the
+        compiler made a variant has the kind of the variant too."""
         if name in self.m.symbols:
             return self.m.symbols[name]
-        found = [at for symbol, at in self.m.symbols.items() if symbol.rpartition(".")[0] == name and symbol.rpartition(".")[2].isdigit()]
+        variant = re.compile(re.escape(name) + r"(\.(constprop|isra|part))?\.\d+")
+        found = [at for symbol, at in self.m.symbols.items() if variant.fullmatch(symbol)]
         if len(found) != 1:
             raise Failed(f"the ELF has {len(found)} symbols {name}")
         return found[0]
@@ -304,6 +308,15 @@ class Proof:
                 effect(state, *arguments)
             self.m.jump(state, link)
         self.m.hooks[self.address(name)] = hook
+
+    def note_at(self, name, look):
+        """Notes in the log what `look` finds in each state in which an assumed callee is reached, before the callee changes it."""
+        hook = self.m.hooks[self.address(name)]
+
+        def noting(state):
+            state.log.append(("found", look(state)))
+            hook(state)
+        self.m.hooks[self.address(name)] = noting
 
     def keeps_contract(self, state, name=None, block="block"):
         """Proves that a function which returns has kept its contract: the one by which `assume` replaces it. `block` says in which space the

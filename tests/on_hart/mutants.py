@@ -195,18 +195,34 @@ def judged(bench, four, number, mutant):
     return ""
 
 
+def wanted(rows):
+    """The rows whose file or text has one of the words of the command line, or all of them, each with its number."""
+    words = [it for it in sys.argv[1:] if not it.startswith("--")]
+    return [(i, it) for i, it in enumerate(rows) if not words or any(word in it[0] + it[1] for word in words)]
+
+
+def four_harts(folder):
+    """Writes the platform of four harts into a folder, and returns its path."""
+    four = folder / "four.toml"
+    four.write_text((m.FIRMWARE / "platform.toml").read_text().replace("harts = 1\n", "harts = 4\n"))
+    return four
+
+
+def report(rows, reasons):
+    """Prints what each mutant failed, or that it survived, and then how many did."""
+    survived = 0
+    for (_, mutant), why in zip(rows, reasons):
+        survived += not why
+        print(f"{'failed ' + why if why else 'SURVIVED'}: {mutant[0]}: {mutant[1].strip().splitlines()[0][:100]}", flush=True)
+    print(f"{survived} of {len(rows)} survived")
+
+
 def main():
-    wanted = [(i, it) for i, it in enumerate(MUTANTS) if not sys.argv[1:] or any(word in it[0] + it[1] for word in sys.argv[1:])]
+    rows = wanted(MUTANTS)
     with tempfile.TemporaryDirectory() as place, ThreadPoolExecutor(3) as many:
         folder = Path(place)
-        four = folder / "four.toml"
-        four.write_text((m.FIRMWARE / "platform.toml").read_text().replace("harts = 1\n", "harts = 4\n"))
-        bench = Bench(folder)
-        survived = 0
-        for (_, mutant), look in zip(wanted, many.map(lambda it: judged(bench, four, *it), wanted)):
-            survived += not look
-            print(f"{'failed ' + look if look else 'SURVIVED'}: {mutant[0]}: {mutant[1].strip().splitlines()[0][:100]}", flush=True)
-    print(f"{survived} of {len(wanted)} survived")
+        four, bench = four_harts(folder), Bench(folder)
+        report(rows, many.map(lambda it: judged(bench, four, *it), rows))
 
 
 if __name__ == "__main__":
