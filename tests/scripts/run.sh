@@ -71,7 +71,7 @@ without_rt() {
 if PATH=/usr/bin:/bin command -v rt >/dev/null; then
     echo 'left out: scripts without rt, which is in /usr/bin'
 else
-    for tool in library module_of module_unproved prove retarget unproved unproved_program; do
+    for tool in library module_of module_unproved prove retarget static_program unproved unproved_program; do
         without_rt "tools/$tool" crates/pmpmon /dev/null
     done
 fi
