@@ -36,6 +36,13 @@ impl<R: Files> CertificateFile<R> {
     pub fn reason(&self) -> Option<Reason> {
         self.part.reason()
     }
+
+    /// Makes each write fail with this reason, so that the file in the place stays.
+    pub fn keep(&mut self, reason: Reason)
+        ensures failures { self.new.part.failures ≡ self.old.part.failures }
+    {
+        self.part.keep(reason);
+    }
 }
 
 impl<R: Files> Sink for CertificateFile<R> {

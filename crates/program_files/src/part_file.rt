@@ -30,6 +30,7 @@ pub struct PartFile<R: Files> {
     is_beside: bool,
     is_plain: bool,
     file: Option<R::File>,
+    kept: Option<Reason>,
     reason: Option<Reason>,
     failures: u64,
     stalls: u64,
@@ -55,6 +56,7 @@ impl<R: Files + Drop> PartFile<R> {
             is_beside: false,
             is_plain: false,
             file: None,
+            kept: None,
             reason: None,
             failures: 0,
             stalls: 0,
@@ -66,6 +68,14 @@ impl<R: Files> PartFile<R> {
     /// Returns the reason of its last failure, if it has failed.
     pub fn reason(&self) -> Option<Reason> {
         self.reason
+    }
+
+    /// Makes each write fail with this reason, so that the file in the place stays.
+    pub(crate) fn keep(&mut self, reason: Reason)
+        ensures failures { self.new.failures ≡ self.old.failures }
+        ensures stalls { self.new.stalls ≡ self.old.stalls }
+    {
+        self.kept = Some(reason);
     }
 
     /// Opens a new file beside the place; or the existing file, if it is not a plain file or no file can be created in
@@ -244,6 +254,9 @@ impl<R: Files> Sink for PartFile<R> {
         ensures stalls { CountsStall result buf.now self.old.stalls self.new.stalls }
         ensures removed { IfErr result (λ _. self.new.is_beside ≡ false) }
     {
+        if let Some(reason) = self.kept {
+            return Err(self.fail(reason));
+        }
         match self.write_some(buf) {
             Ok(n) if n > 0 || buf.is_empty() => Ok(n),
             other => Err(self.fail(why(other))),

@@ -36,6 +36,18 @@ pub enum Reason {
     Closed,
     /// An allocation failed.
     Memory,
+    /// The existing file is a map, and is not replaced.
+    IsMap,
+    /// The existing file is a platform, and is not replaced.
+    IsPlatform,
+    /// The existing file is a listing of registers, and is not replaced.
+    IsListing,
+    /// The existing file is a trace, and is not replaced.
+    IsTrace,
+    /// The existing file is a device tree, and is not replaced.
+    IsTree,
+    /// The existing file is an input of another kind, and is not replaced.
+    IsInput,
     /// Any other reason.
     Other,
 }
@@ -77,6 +89,12 @@ impl Reason {
             Reason::PartsTaken => "its names beside it, .part0 to .part9, are taken",
             Reason::Closed => "its reader has gone",
             Reason::Memory => "out of memory",
+            Reason::IsMap => "it is a map, and plan does not replace it",
+            Reason::IsPlatform => "it is a platform, and plan does not replace it",
+            Reason::IsListing => "it is a listing of registers, and plan does not replace it",
+            Reason::IsTrace => "it is a trace, and plan does not replace it",
+            Reason::IsTree => "it is a device tree, and plan does not replace it",
+            Reason::IsInput => "it is an input, and plan does not replace it",
             Reason::Other => "another error of the system",
         }
     }
