@@ -311,6 +311,19 @@ note $? 'judge map stops >/dev/full'
 "$program" judge map stops >got.out 2>got.err
 [ $? = 2 ] && [ "$(cat got.out)" = '1 ok' ]
 note $? 'judge map stops: the answer before it'
+# They are before it even if both go to one file.
+"$program" judge map stops >got.err 2>&1
+[ $? = 2 ] && [ "$(cat got.err)" = "$(printf '1 ok\npmpmon: stops: line 2 is not understood')" ]
+note $? 'judge map stops, in one file'
+"$program" run platform stops >got.err 2>&1
+[ $? = 2 ] && [ "$(cat got.err)" = "$(printf '1 ok 0x0000000000000000\npmpmon: stops: line 2 is not understood')" ]
+note $? 'run platform stops, in one file'
+# A reader of the help that has gone, such as head, is not reported.
+for words in '--help' '--version' 'plan --help'; do
+    (sleep 0.2; "$program" $words 2>got.err; echo $? >got.out) | true
+    [ "$(cat got.out)" = 3 ] && [ ! -s got.err ]
+    note $? "$words to a reader that has gone"
+done
 
 # Standard error is a full device: the status is unchanged.
 for words in '3 plan absent' '2 plan wrong' '2 plan' '3 check map absent'; do

@@ -58,9 +58,8 @@ MAPS = [
     ("a no-break space", "0 4096\u00a0r\n".encode(), 1, ["1:7: a no-break space; write a space"]),
     ("a letter beyond ASCII", "0 4096 r é\n".encode(), 1, ["1:10: a byte that is no visible ASCII character; write it behind a #"]),
     ("OpenSBI's boot log", b"Domain0 Region00 : 0x2000000-0x200ffff (I)\n", 1, ["1:1: BASE 'Domain0' is no number; 'pmpmon map' reads a boot log"]),
-    ("a device tree", b"/dts-v1/;\n/ { };\n", 1, [
-        "1:1: BASE '/dts-v1/;' is no number; a comment begins with #",
-        "2:1: BASE '/' is no number; a comment begins with #"]),
+    ("the source of a device tree", b"/dts-v1/;\n/ { };\n", 1, [
+        ": this is the source of a device tree; map and platform take the tree that dtc makes of it"]),
 ]
 
 MONITOR = "[monitor]\nbase = 0x80000000\nsize = 0x200000\n"
@@ -123,7 +122,8 @@ REGISTER = "the line is not understood; write a register and its value, as 'pmpc
 # A listing of registers, the error, and the hint.
 LISTINGS = [
     ("a word of RV32", "pmpcfg0 0x1f\npmpcfg1 0x1f\n", 2, "2:1: " + OF_RV32),
-    ("the same beside one of 64 bits", "pmpcfg1 0x1f\npmpcfg0 0x1f1f1f1f1f\n", 1, "1:1: " + REGISTER),
+    ("the same beside one of 64 bits", "pmpcfg1 0x1f\npmpcfg0 0x1f1f1f1f1f\n", 1,
+     "1:1: no hart of RV64 has this register; the numbers of pmpcfg are even"),
     ("another register that begins with p", "pmaddr0 0x1f\n", 1, "1:1: " + REGISTER),
     ("a value that is none", "pmpcfg0 rwx\n", 1, "1:1: " + REGISTER),
 ]
@@ -131,6 +131,7 @@ LISTINGS = [
 # A file of more than 1 MiB, and the error and the beginning of its hint.
 LARGE = (b"#" * 63 + b"\n") * (MIB // 64) + b"\n"
 SOURCE = b"/dts-v1/;\n/ { model = \"a board of a test\"; };\n"
+OF_SOURCE = "hint: map: this is the source of a device tree; map and platform take the tree that dtc makes of it\n"
 TOO_LARGE = "pmpmon: map: too large\nhint: map: more than 1048576 bytes; "
 # The error for more than 4096 ranges, and its hint.
 MANY = "pmpmon: map: too many ranges\n"
@@ -154,7 +155,8 @@ COMMANDS = [
     ("a map of 4097, of which a later line leaves none, before a line at fault",
      {"map": scattered(4097) + b"0 0x100000000000000 none\nwhat\n"}, "plan map", "",
      MANY + "hint: map:4099:1: BASE 'what' is no number; write decimal digits, or 0x and hexadecimal digits\n" + OF_MANY, 2),
-    ("a map of 1 MiB", {"map": b"\n" * MIB}, "plan map", "entries 0\npmpcfg0 0x0000000000000000\npmpcfg2 0x0000000000000000\n", "", 0),
+    ("a map of 1 MiB", {"map": b"\n" * MIB}, "plan map", "entries 0\npmpcfg0 0x0000000000000000\npmpcfg2 0x0000000000000000\n",
+     "hint: map: the map is empty: no page has a permission\n", 0),
     ("a map of more, whose first line is at fault", {"map": b"x" + b"\n" * MIB}, "plan map", "", TOO_LARGE + "a map has at most 1 MiB\n", 2),
     ("a missing file", {}, "plan map", "", "pmpmon: map: cannot read\nhint: map: no such file or folder\n", 3),
     ("a platform that needs more entries", {"map": (MONITOR + RAM + "".join(UART.replace("0x10000000", hex(i << 13)) for i in range(17))).encode(),
@@ -165,9 +167,9 @@ COMMANDS = [
     ("a listing of more than 1 MiB", {"map": LARGE}, "map map", "", TOO_LARGE + "a listing of registers or a device tree has at most 1 MiB\n", 2),
     ("a device tree of more than 1 MiB", {"map": LARGE}, "platform map", "", TOO_LARGE + "a device tree has at most 1 MiB\n", 2),
     ("the source of a device tree", {"map": SOURCE}, "platform map", "",
-     "pmpmon: map: it does not begin with d0 0d fe ed, at byte 0\n", 2),
+     "pmpmon: map: it does not begin with d0 0d fe ed, at byte 0\n" + OF_SOURCE, 2),
     ("the same for map", {"map": SOURCE}, "map map", "",
-     "pmpmon: map: line 1 is not understood\nhint: map:1:1: the line is not understood; write a register and its value, as 'pmpcfg0 0x1f'\n", 2),
+     "pmpmon: map: line 1 is not understood\n" + OF_SOURCE, 2),
     ("an empty file for platform", {"map": b""}, "platform map", "", "pmpmon: map: the header is cut, at byte 0\n", 2),
     ("a cut device tree", {"map": b"\xd0\x0d\xfe\xed\0\0\1\0" + bytes(32)}, "platform map", "",
      "pmpmon: map: the header says more bytes than there are, at byte 4\n", 2),
@@ -209,9 +211,12 @@ COMMANDS = [
      "error: invalid value 'xml' for '--format <text|c|asm|json>'\n  [possible values: text, c, asm, json]\n", 2),
     ("an option with a letter wrong", {"map": b"0 4096 r\n"}, "plan map --entires 16", "",
      "error: unexpected argument '--entires' found\n\n  tip: a similar argument exists: '--entries'\n", 2),
-    ("a text for a certificate", {"map": b"0 4096 r\n", "cert": b"0 4096 r\n"}, "check map cert", "refused 1 BadMagic\n", "", 1),
+    ("a map for a certificate", {"map": b"0 4096 r\n", "cert": b"0 4096 r\n"}, "check map cert", "refused 1 BadMagic\n",
+     "hint: cert: this is a map; plan, show and judge take it\n", 1),
+    ("a map too high for RV32 that needs more entries than a hart has", {"map": b"".join(b"%d 4096 r\n" % ((1 << 36) + i * 8192) for i in range(24))},
+     "plan map --xlen 32", "", "pmpmon: map: too far: 34 bits\n", 2),
     ("a certificate of another map", {"map": b"0 0x100000000000000 rwx\n", "cert": bytes.fromhex("504d504301000000000000")}, "check map cert",
-     "refused 10 WrongLeaf\n", "", 1),
+     "refused 10 WrongLeaf\n", "hint: cert: the block 0x0 to 0xffffffffffffff is --- in the certificate; in the map the page at 0x0 is rwx\n", 1),
     ("a reserved value in registers", {"map": b"0 4096 r\n", "regs": b"pmpcfg0 0x1a\n"}, "audit map regs",
      "pair 0 0x1a 0x0000000000000000: W without R\n", "", 1),
     ("Smepmp", {"map": b"0 4096 r\n", "regs": b"mseccfg 0x8\n"}, "audit map regs",

@@ -72,7 +72,8 @@ pub fn request_in<'a>(rt: &HostRuntime, words: &'a [&'a str]) -> Result<Request<
     }
 }
 
-/// Prints help or the version on standard output, or a fault of the command line on standard error.
+/// Prints help or the version on standard output, or a fault of the command line on standard error. If the reader of
+/// standard output has closed it, this is not reported.
 fn exit_with_usage(rt: &HostRuntime, error: &Error) -> ExitCode
     ensures { IsStatusOf (kind_of error.now) (exit_status result) }
 {
@@ -85,6 +86,8 @@ fn exit_with_usage(rt: &HostRuntime, error: &Error) -> ExitCode
     }
     match printed {
         Ok(()) => ExitCode::SUCCESS,
+        // The reader, such as `head`, has read all that it wants.
+        Err(error) if error.kind() == io::ErrorKind::BrokenPipe => ExitCode::from(3),
         Err(_) => exit_with_trouble(rt, Trouble::Output),
     }
 }

@@ -4,8 +4,11 @@
 ghost use Rattle.std.specs.Prelude.{◌<◌, ◌^◌};
 
 use crate::boards::TREE_BYTES;
-use crate::lint::{TRACE_BYTES, lint_as_platform, lint_as_trace, lint_listing, lint_map};
+use crate::lint::{
+    TRACE_BYTES, lint_as_platform, lint_as_trace, lint_listing, lint_map, print_kind,
+};
 use crate::platform_inputs::PLATFORM_BYTES;
+use file_hints::{FileKind, front_of};
 use input_files::Taker;
 use pmp_encoding::Xlen;
 use program_files::{
@@ -81,6 +84,18 @@ pub(crate) fn hint_of(alloc: Global, name: &str, end: &[u8]) -> Result<Vec<u8>, 
     Ok(hint)
 }
 
+/// Returns the hint for a file with this message.
+pub(crate) fn line_hint(alloc: Global, name: &str, said: &[u8]) -> Result<Vec<u8>, AllocError> {
+    let mut end = Vec::new(alloc);
+    end.extend_from_slice(b": ")?;
+    end.extend_from_slice(said)?;
+    end.extend_from_slice(b"\n")?;
+    hint_of(alloc, name, end.as_slice())
+}
+
+/// Number of pieces of 4 KiB of a trace or a certificate that are kept in memory for hints: 16 MiB.
+pub(crate) const HINT_PIECES: usize = 4096;
+
 /// The result of reading a file.
 #[derive(Drop)]
 pub(crate) enum FileOrHint {
@@ -114,7 +129,18 @@ pub(crate) fn size_hint<'a, R: Source>(
     name: &'a str,
     source: &mut R,
 ) -> Hint<'a> {
-    match has_more(source, form.most_bytes()) {
+    rest_hint(alloc, form, name, 0, source)
+}
+
+/// Returns the hint for an input that is too large, given the number of bytes that were read before.
+pub(crate) fn rest_hint<'a, R: Source>(
+    alloc: Global,
+    form: Form,
+    name: &'a str,
+    before: usize,
+    source: &mut R,
+) -> Hint<'a> {
+    match has_more(source, form.most_bytes().saturating_sub(before)) {
         Ok(false) => Ok(None),
         Ok(true) => Ok(Some(hint_of(alloc, name, form.size_text().as_bytes())?)),
         Err(_) => Err(Trouble::CannotRead { file: name }),
@@ -122,7 +148,7 @@ pub(crate) fn size_hint<'a, R: Source>(
 }
 
 /// Returns the lines of a text, each after `hint: `.
-fn hints_in(alloc: Global, text: &[u8]) -> Result<Vec<u8>, AllocError> {
+pub(crate) fn hints_in(alloc: Global, text: &[u8]) -> Result<Vec<u8>, AllocError> {
     let mut hints = Vec::new(alloc);
     let mut is_first = true;
     for byte in text {
@@ -145,10 +171,11 @@ pub(crate) fn hints_for(alloc: Global, form: Form, name: &str, bytes: &[u8]) -> 
         Form::Map => lint_map(alloc, name, bytes, &mut held)?,
         Form::Platform => lint_as_platform(alloc, name, bytes, &mut held)?,
         Form::Listing(xlen) | Form::ListingOrTree(xlen) => {
-            lint_listing(xlen, name, bytes, &mut held)?
+            lint_listing(alloc, xlen, name, bytes, &mut held)?
         }
         Form::Trace(taker) => lint_as_trace(alloc, name, bytes, taker, &mut held)?,
-        Form::Tree | Form::Certificate => true,
+        Form::Tree => print_kind(name, FileKind::Tree, bytes, &mut held)?,
+        Form::Certificate => true,
     };
     if is_right {
         return Ok(None);
@@ -164,8 +191,24 @@ pub(crate) fn hints_of<'a, R: Source>(
     name: &'a str,
     source: &mut R,
 ) -> Hint<'a> {
+    if let Form::Trace(_) = form {
+        return hints_of_trace(alloc, form, name, source);
+    }
     match bytes_or_hint(alloc, form, name, source)? {
         FileOrHint::Bytes(bytes) => hints_for(alloc, form, name, bytes.as_slice()),
         FileOrHint::Hint(hint) => Ok(Some(hint)),
     }
+}
+
+/// Returns the hints for the first 16 MiB of a trace, without a line that is cut off there.
+fn hints_of_trace<'a, R: Source>(
+    alloc: Global,
+    form: Form,
+    name: &'a str,
+    source: &mut R,
+) -> Hint<'a> {
+    let Some(front) = front_of(alloc, source, HINT_PIECES)? else {
+        return Err(Trouble::CannotRead { file: name });
+    };
+    hints_for(alloc, form, name, front.whole_lines())
 }

@@ -2,19 +2,22 @@
 
 use crate::certified_plan::plan_within;
 use crate::forms::{
-    FileOrHint, Form, Hint, bytes_or_hint, hint_of, hints_for, hints_of, size_hint,
+    FileOrHint, Form, HINT_PIECES, Hint, bytes_or_hint, hint_of, hints_for, hints_in, hints_of,
+    line_hint, rest_hint, size_hint,
 };
 use crate::lint::names_platform;
 use crate::plan::most_entries;
 use crate::platform_inputs::platform_in;
 use board_texts::is_tree;
 use command_line::{LintKind, Options, Request, Task};
+use file_hints::{front_of, refusal_reason};
 use hart_sim::Machine;
-use input_files::Taker;
+use input_files::{Taker, push_line_costs};
 use map_text::room_from;
+use permission_map::PermissionMap;
 use platforms::{BootFault, Platform};
 use pmp_encoding::{Limit, Xlen};
-use program_files::{Trouble, map_by};
+use program_files::{MAP_BYTES, Trouble, map_by};
 use std::alloc::Global;
 use text_lines::{Sink, Source, write_whole};
 
@@ -25,10 +28,21 @@ struct Bounds {
     most: Option<u64>,
     /// The number of entries for which configuration words are printed, if that is bounded.
     words: Option<u64>,
+    /// The width of the hart's registers.
+    xlen: Xlen,
+    /// True if it is pointed out that a map permits nothing.
+    tells_empty: bool,
+    /// True if the hint for a map that needs too many entries is followed by the costs of its lines.
+    costs: bool,
 }
 
-/// Returns the hint for a map that needs more entries than the maximum, or than the configuration words have room for.
+/// Returns the hint for a map that needs more entries than the maximum, or than the configuration words have room for,
+/// or for one that is empty, if that is pointed out.
 fn need_hint(alloc: Global, name: &str, bounds: Bounds, needed: u64) -> Hint<'static> {
+    if needed == 0 && bounds.tells_empty {
+        let said = b": the map is empty: no page has a permission\n";
+        return Ok(Some(hint_of(alloc, name, said)?));
+    }
     let entries = if needed == 1 { "entry" } else { "entries" };
     if let Some(most) = bounds.most {
         if most < needed {
@@ -54,7 +68,14 @@ fn boot_hint(alloc: Global, name: &str, platform: Platform) -> Hint<'static> {
         Ok(_) => Ok(None),
         Err(BootFault::NeedsMoreEntries(needed)) => {
             let most = Some(u64::from(limit.number()));
-            need_hint(alloc, name, Bounds { most, words: None }, needed)
+            let bounds = Bounds {
+                most,
+                words: None,
+                xlen: Xlen::Rv64,
+                tells_empty: false,
+                costs: false,
+            };
+            need_hint(alloc, name, bounds, needed)
         }
         Err(BootFault::Memory) => Err(Trouble::Memory),
     }
@@ -84,17 +105,27 @@ fn hints_of_run<'a, R: Source>(
     hints_of(alloc, Form::Trace(Taker::Run { harts }), trace, second)
 }
 
-/// Returns the number of entries that the map in a map file needs.
-fn needed_by<'a>(alloc: Global, name: &'a str, bytes: &[u8]) -> Result<u64, Trouble<'a>> {
+/// Returns the number of entries that the map in a map file needs. A map that the hart's address registers do not reach
+/// is an error, unless it needs too many entries.
+fn needed_by<'a>(
+    alloc: Global,
+    name: &'a str,
+    bounds: Bounds,
+    bytes: &[u8],
+) -> Result<u64, Trouble<'a>> {
     if bytes.len() > u32::MAX as usize {
         return Err(Trouble::TooLarge { file: name });
     }
     let map = map_by(alloc, name, bytes)?;
-    let plan = plan_within(alloc, name, &map, Xlen::Rv64, None)?;
-    Ok(plan.entries().len() as u64)
+    match plan_within(alloc, name, &map, bounds.xlen, bounds.most) {
+        Ok(plan) => Ok(plan.entries().len() as u64),
+        Err(Trouble::NeedsEntries { needed }) => Ok(needed),
+        Err(trouble) => Err(trouble),
+    }
 }
 
-/// Returns the hints for a map: its faults, or that it needs too many entries.
+/// Returns the hints for a map: its faults, or that it needs too many entries, with the costs of its lines if they are
+/// requested.
 fn hints_of_map<'a, R: Source>(
     alloc: Global,
     name: &'a str,
@@ -108,8 +139,18 @@ fn hints_of_map<'a, R: Source>(
     if let Some(hints) = hints_for(alloc, Form::Map, name, bytes.as_slice())? {
         return Ok(Some(hints));
     }
-    let needed = needed_by(alloc, name, bytes.as_slice())?;
-    need_hint(alloc, name, bounds, needed)
+    let needed = needed_by(alloc, name, bounds, bytes.as_slice())?;
+    let Some(hint) = need_hint(alloc, name, bounds, needed)? else {
+        return Ok(None);
+    };
+    if !bounds.costs || bytes.len() > MAP_BYTES {
+        return Ok(Some(hint));
+    }
+    let mut costs = Vec::new(alloc);
+    push_line_costs(alloc, &mut costs, bytes.as_slice())?;
+    let mut hints = hint;
+    hints.extend_from_slice(hints_in(alloc, costs.as_slice())?.as_slice())?;
+    Ok(Some(hints))
 }
 
 /// Returns the hints for a file that is a listing of registers, according to the options, or a map.
@@ -118,12 +159,20 @@ fn hints_of_file<'a, R: Source>(
     options: &Options<'a>,
     name: &'a str,
     most: Option<u64>,
+    tells_empty: bool,
     source: &mut R,
 ) -> Hint<'a> {
     if options.registers {
         return hints_of(alloc, Form::Listing(options.xlen), name, source);
     }
-    hints_of_map(alloc, name, Bounds { most, words: None }, source)
+    let bounds = Bounds {
+        most,
+        words: None,
+        xlen: options.xlen,
+        tells_empty,
+        costs: options.costs,
+    };
+    hints_of_map(alloc, name, bounds, source)
 }
 
 /// Returns the hints for a plan: those for its map, or that the configuration words have no room for its entries.
@@ -137,6 +186,9 @@ fn hints_of_plan<'a, R: Source>(
     let bounds = Bounds {
         most: most_entries(limit, options.first, options.at_most, options.format),
         words: Some(room_from(options.first, limit) as u64),
+        xlen: options.xlen,
+        tells_empty: true,
+        costs: false,
     };
     hints_of_map(alloc, name, bounds, source)
 }
@@ -153,6 +205,48 @@ fn hints_of_source<'a, R: Source>(
         FileOrHint::Bytes(bytes) if is_tree(bytes.as_slice()) => Ok(None),
         FileOrHint::Bytes(bytes) => hints_for(alloc, form, name, bytes.as_slice()),
         FileOrHint::Hint(hint) => Ok(Some(hint)),
+    }
+}
+
+/// Returns the hints for `check`: those for its map; if that is valid, why the certificate is refused, or that it is too
+/// large.
+fn hints_of_check<'a, R: Source>(
+    alloc: Global,
+    map: &'a str,
+    cert: &'a str,
+    first: &mut R,
+    second: &mut R,
+) -> Hint<'a> {
+    let bytes = match bytes_or_hint(alloc, Form::Map, map, first)? {
+        FileOrHint::Bytes(bytes) => bytes,
+        FileOrHint::Hint(hint) => return Ok(Some(hint)),
+    };
+    if let Some(hints) = hints_for(alloc, Form::Map, map, bytes.as_slice())? {
+        return Ok(Some(hints));
+    }
+    if bytes.len() > MAP_BYTES {
+        return Ok(None);
+    }
+    let map = map_by(alloc, map, bytes.as_slice())?;
+    refusal_hint(alloc, cert, &map, second)
+}
+
+/// Returns the hint why a certificate of a map is refused, if it has at most 16 MiB, or that it is too large.
+fn refusal_hint<'a, R: Source>(
+    alloc: Global,
+    cert: &'a str,
+    map: &PermissionMap,
+    source: &mut R,
+) -> Hint<'a> {
+    let Some(front) = front_of(alloc, source, HINT_PIECES)? else {
+        return Err(Trouble::CannotRead { file: cert });
+    };
+    if !front.is_whole {
+        return rest_hint(alloc, Form::Certificate, cert, front.bytes.len(), source);
+    }
+    match refusal_reason(alloc, map, front.bytes.as_slice())? {
+        Some(reason) => Ok(Some(line_hint(alloc, cert, reason.as_slice())?)),
+        None => Ok(None),
     }
 }
 
@@ -197,17 +291,17 @@ fn task_hints<'a, R: Source>(
         } => hints_of_run(alloc, platform, trace, first, second)?,
         Task::Plan { map, limit, .. } => hints_of_plan(alloc, map, limit, options, first)?,
         Task::Judge { map, limit, .. } => {
-            hints_of_file(alloc, options, map, Some(u64::from(limit.number())), first)?
+            let most = Some(u64::from(limit.number()));
+            hints_of_file(alloc, options, map, most, false, first)?
         }
-        Task::Check { map, .. } | Task::Audit { map, .. } => {
-            hints_of(alloc, Form::Map, map, first)?
-        }
+        Task::Check { map, cert } => hints_of_check(alloc, map, cert, first, second)?,
+        Task::Audit { map, .. } => hints_of(alloc, Form::Map, map, first)?,
         Task::Map { file } => hints_of_source(alloc, xlen, file, first)?,
-        Task::Show { map, .. } => hints_of_file(alloc, options, map, options.at_most, first)?,
+        Task::Show { map, .. } => hints_of_file(alloc, options, map, options.at_most, true, first)?,
         Task::Lint { file, platform } => {
             hints_of_lint(alloc, options, platform, file, first, second)?
         }
-        Task::Platform { board, .. } => size_hint(alloc, Form::Tree, board, first)?,
+        Task::Platform { board, .. } => hints_of(alloc, Form::Tree, board, first)?,
         Task::Measure { .. } => None,
     };
     if let Some(hints) = of_first {
@@ -215,7 +309,6 @@ fn task_hints<'a, R: Source>(
     }
     match request.task {
         Task::Judge { trace, .. } => hints_of(alloc, Form::Trace(Taker::Judge), trace, second),
-        Task::Check { cert, .. } => size_hint(alloc, Form::Certificate, cert, second),
         Task::Audit { registers, .. } => hints_of(alloc, Form::Listing(xlen), registers, second),
         _ => Ok(None),
     }
@@ -223,7 +316,8 @@ fn task_hints<'a, R: Source>(
 
 /// Prints hints for the inputs of a task that ended because of bad input, re-reading them from `first` and `second`:
 /// `lint`'s messages for the first invalid input, each after `hint: `; or the number of entries of a map that needs too
-/// many, which is also reported for a plan that was printed without configuration words. Prints nothing if each input
+/// many, which is also reported for a plan that was printed without configuration words; or why a certificate was
+/// refused; or that a map is empty. Prints nothing if each input
 /// is valid, if one could not be read, or if an allocation fails.
 pub fn tell_hints<R: Source, E: Sink>(
     alloc: Global,

@@ -8,13 +8,13 @@ ghost use Rattle.monitor_cli.specs.Lints.{names_platform, Finds, HasHarts, HasNo
 
 use crate::platform_inputs::read_platform;
 use command_line::{LintKind, Options};
-use input_files::{LintFault, Taker, lint_platform, lint_trace};
-use itoa::Buffer;
+use file_hints::{FileKind, likely_kind, listing_reason};
+use input_files::{Taker, lint_platform, lint_trace};
 use pmp_encoding::Xlen;
 use program_files::{MAP_BYTES, REGISTER_BYTES, Trouble, bytes_in, shown, text_of, write_named};
-use register_audit::{is_listing, listing_of};
-use std::alloc::Global;
-use text_lines::{Sink, Source};
+use register_audit::listing_of;
+use std::alloc::{AllocError, Global};
+use text_lines::{Counted, DeviceFault, Sink, Source, push, push_number, write_whole};
 
 /// Maximum size in bytes of a trace to lint.
 pub const TRACE_BYTES: usize = 1 << 30;
@@ -26,14 +26,35 @@ pub(crate) fn names_platform(name: &str) -> bool
     name.as_bytes().ends_with(b".toml")
 }
 
-/// Converts a fault of a lint.
-fn lint_trouble(fault: LintFault) -> Trouble<'static>
-    ensures { IsOfDevices result }
-{
-    match fault {
-        LintFault::Memory => Trouble::Memory,
-        LintFault::Device => Trouble::Output,
+/// Prints the likely kind of a file, if it is not the expected one. Returns whether nothing was printed.
+pub(crate) fn print_kind<W: Sink>(
+    name: &str,
+    expected: FileKind,
+    bytes: &[u8],
+    out: &mut W,
+) -> Result<bool, DeviceFault> {
+    match likely_kind(bytes) {
+        Some(kind) if kind != expected => {
+            write_named(out, "", name, &[": ", kind.text(), "\n"])?;
+            Ok(false)
+        }
+        _ => Ok(true),
     }
+}
+
+/// Prints the findings in a file. If it is invalid and likely to be of another kind, prints that kind instead.
+fn print_findings<W: Sink>(
+    name: &str,
+    expected: FileKind,
+    bytes: &[u8],
+    is_valid: bool,
+    findings: &[u8],
+    out: &mut W,
+) -> Result<(), DeviceFault> {
+    if is_valid || print_kind(name, expected, bytes, out)? {
+        write_whole(out, findings)?;
+    }
+    Ok(())
 }
 
 /// Prints the faults of a map file, and returns whether it is a map.
@@ -47,10 +68,15 @@ pub(crate) fn lint_map<W: Sink>(
     ensures found { IfOk result (IsVerdictOfLines bytes.now) }
     ensures stopped { IfErr result IsOfDevices }
 {
-    let name = shown(alloc, name.as_bytes())?;
-    match input_files::lint_map(alloc, text_of(name.as_slice()), bytes, out) {
-        Ok(is_map) => Ok(is_map),
-        Err(fault) => Err(lint_trouble(fault)),
+    let printed = shown(alloc, name.as_bytes())?;
+    let mut held = Counted::new(Vec::new(alloc));
+    match input_files::lint_map(alloc, text_of(printed.as_slice()), bytes, &mut held) {
+        Ok(is_map) => {
+            let findings = held.into_inner();
+            print_findings(name, FileKind::Map, bytes, is_map, findings.as_slice(), out)?;
+            Ok(is_map)
+        }
+        Err(_) => Err(Trouble::Memory),
     }
 }
 
@@ -64,10 +90,22 @@ pub(crate) fn lint_as_platform<W: Sink>(
     ensures found { IfOk result (IsFound true bytes.now) }
     ensures stopped { IfErr result IsOfDevices }
 {
-    let name = shown(alloc, name.as_bytes())?;
-    match lint_platform(alloc, text_of(name.as_slice()), bytes, out) {
-        Ok(is_platform) => Ok(is_platform),
-        Err(fault) => Err(lint_trouble(fault)),
+    let printed = shown(alloc, name.as_bytes())?;
+    let mut held = Counted::new(Vec::new(alloc));
+    match lint_platform(alloc, text_of(printed.as_slice()), bytes, &mut held) {
+        Ok(is_platform) => {
+            let findings = held.into_inner();
+            print_findings(
+                name,
+                FileKind::Platform,
+                bytes,
+                is_platform,
+                findings.as_slice(),
+                out,
+            )?;
+            Ok(is_platform)
+        }
+        Err(_) => Err(Trouble::Memory),
     }
 }
 
@@ -83,35 +121,48 @@ pub(crate) fn lint_as_trace<W: Sink>(
     ensures found { IfOk result (λ is. is ≡ is_trace taker bytes.now) }
     ensures stopped { IfErr result IsOfDevices }
 {
-    let name = shown(alloc, name.as_bytes())?;
-    match lint_trace(alloc, text_of(name.as_slice()), bytes, taker, out) {
-        Ok(is_trace) => Ok(is_trace),
-        Err(fault) => Err(lint_trouble(fault)),
+    let printed = shown(alloc, name.as_bytes())?;
+    let mut held = Counted::new(Vec::new(alloc));
+    match lint_trace(alloc, text_of(printed.as_slice()), bytes, taker, &mut held) {
+        Ok(is_trace) => {
+            let findings = held.into_inner();
+            print_findings(
+                name,
+                FileKind::Trace,
+                bytes,
+                is_trace,
+                findings.as_slice(),
+                out,
+            )?;
+            Ok(is_trace)
+        }
+        Err(_) => Err(Trouble::Memory),
     }
 }
 
-/// Returns the reason why a line of a listing is invalid, considering whether all lines are valid with the other width.
-fn listing_reason(xlen: Xlen, bytes: &[u8]) -> &'static str
+/// Returns the line for the first invalid line of a listing of registers.
+fn listing_line(
+    alloc: Global,
+    xlen: Xlen,
+    name: &str,
+    bytes: &[u8],
+    line: u64,
+) -> Result<Vec<u8>, AllocError>
     requires { length bytes.now < 2 ^ 64 - 1 }
 {
-    match xlen {
-        Xlen::Rv64 if is_listing(Xlen::Rv32, bytes) => {
-            ":1: the line is not understood, but each is as one of RV32; add '--xlen 32'\n"
-        }
-        Xlen::Rv32 if is_listing(Xlen::Rv64, bytes) => {
-            ":1: the line is not understood, but each is as one of RV64; leave out '--xlen 32'\n"
-        }
-        Xlen::Rv64 => {
-            ":1: the line is not understood; write a register and its value, as 'pmpcfg0 0x1f'\n"
-        }
-        Xlen::Rv32 => {
-            ":1: the line is not understood; write a register and its value of 32 bits, as 'pmpcfg0 0x1f'\n"
-        }
-    }
+    let mut text = shown(alloc, name.as_bytes())?;
+    push(&mut text, ":")?;
+    push_number(&mut text, line)?;
+    push(&mut text, ":1: ")?;
+    let reason = listing_reason(alloc, xlen, bytes, line)?;
+    text.extend_from_slice(reason.as_slice())?;
+    push(&mut text, "\n")?;
+    Ok(text)
 }
 
 /// Prints the first invalid line of a listing of registers with this width, and returns whether all are valid.
 pub(crate) fn lint_listing<W: Sink>(
+    alloc: Global,
     xlen: Xlen,
     name: &str,
     bytes: &[u8],
@@ -124,9 +175,8 @@ pub(crate) fn lint_listing<W: Sink>(
     match listing_of(xlen, bytes) {
         Ok(_) => Ok(true),
         Err(line) => {
-            let mut number = Buffer::new();
-            let parts = [":", number.format(line), listing_reason(xlen, bytes)];
-            write_named(out, "", name, &parts)?;
+            let text = listing_line(alloc, xlen, name, bytes, line)?;
+            print_findings(name, FileKind::Listing, bytes, false, text.as_slice(), out)?;
             Ok(false)
         }
     }
@@ -191,7 +241,7 @@ pub(crate) fn do_lint<'a, R: Source, W: Sink>(
         LintKind::ByName => lint_by_name(alloc, file, first, out),
         LintKind::Registers => {
             let bytes = bytes_in(alloc, file, first, REGISTER_BYTES)?;
-            lint_listing(options.xlen, file, bytes.as_slice(), out)
+            lint_listing(alloc, options.xlen, file, bytes.as_slice(), out)
         }
         LintKind::Trace => {
             let harts = harts_in(alloc, platform, second)?;

@@ -3,17 +3,25 @@
 ghost use Rattle.std.specs.Prelude.{◌≡◌, IfOk};
 ghost use Rattle.std.specs.Borrow.{Bor};
 ghost use Rattle.text_lines.specs.HeldSink.{held_in, writer_of};
+ghost use Rattle.program_files.specs.Troubles.{status_of};
+ghost use Rattle.monitor_cli.specs.Answered.{status_in};
 ghost use Rattle.monitor_cli.specs.OnFiles.{input_over, EndsOnFiles, IsClosed};
 
+use crate::answered::Answered;
+use crate::certificate_sink::Whole;
 use crate::hints::tell_hints;
-use crate::program::perform_request;
+use crate::program::{report, run_task};
 use crate::task_inputs::{inputs, inputs_again};
 use command_line::{Request, Subcommand, name_or_none, outline_of};
-use program_files::{CertificateFile, Explained, Reason, RetryInterrupted, Trouble, write_named};
+use file_hints::{FileKind, input_kind};
+use program_files::{
+    CertificateFile, Explained, FileToRead, Reason, RetryInterrupted, Trouble, write_named,
+};
 use std::alloc::{AllocError, Global};
+use std::fs;
 use std::io::{Read, Write};
 use std::rt::Files;
-use text_lines::{Held, HeldSink, Sink};
+use text_lines::{Counted, Held, HeldSink, Sink};
 
 /// Resources lent to a task, except its outputs: memory, files and standard input.
 #[derive(Clone, Copy)]
@@ -26,18 +34,69 @@ pub struct Lent<'a, R, S> {
     pub stdin: S,
 }
 
-/// Flushes the rest of the output of a task with this status, and returns the exit status and the stream: 3 if flushing
-/// failed and no failure was reported before. In any case the stream has received a prefix of the output.
-fn close_output<T: Write + Drop, E: Sink>(status: u8, out: HeldSink<T>, err: &mut E) -> (u8, T)
-    ensures { IsClosed (held_in out) (T.contents (writer_of out)) (T.contents result.1) status
-        result.0 }
+/// Flushes the rest of the output of a task, then reports the task's failure or its notes, so that they follow its
+/// output even in one file. Returns the exit status and the stream: 3 if flushing failed and there is no other failure.
+/// In any case the stream has received a prefix of the output.
+fn close_output<T: Write + Drop, E: Sink>(
+    done: Result<Answered, Trouble<'_>>,
+    out: HeldSink<T>,
+    err: &mut E,
+) -> (u8, T)
+    ensures { IsClosed (held_in out) (T.contents (writer_of out)) (T.contents result.1)
+        (status_of (status_in done.entry)) result.0 }
 {
     let (is_whole, stream) = out.close();
+    let status = report(done, err);
     if is_whole || status >= 2 {
         return (status, stream);
     }
     let _ = Trouble::Output.print(err);
     (Trouble::Output.status(), stream)
+}
+
+/// Returns the reason why an input of this kind is not replaced by a certificate.
+fn reason_to_keep(kind: FileKind) -> Reason {
+    match kind {
+        FileKind::Map => Reason::IsMap,
+        FileKind::Platform => Reason::IsPlatform,
+        FileKind::Listing => Reason::IsListing,
+        FileKind::Trace => Reason::IsTrace,
+        FileKind::Tree => Reason::IsTree,
+        FileKind::TreeSource | FileKind::Certificate | FileKind::Elf => Reason::IsInput,
+    }
+}
+
+/// Returns the reason why the file with this name is not replaced by a certificate: it is an input of the program.
+fn kept_reason<R: Files>(
+    files: &R,
+    alloc: Global,
+    name: &str,
+) -> Result<Option<Reason>, AllocError> {
+    match fs::metadata(files, name) {
+        Ok(stands) if stands.is_file() => {}
+        _ => return Ok(None),
+    }
+    let mut source = Counted::new(FileToRead::new(files, name));
+    match input_kind(alloc, &mut source)? {
+        Some(kind) => Ok(Some(reason_to_keep(kind))),
+        None => Ok(None),
+    }
+}
+
+/// Returns the file of a task's certificate, which does not replace an input of the program.
+fn certificate_file<'a, R: Files>(
+    files: &'a R,
+    alloc: Global,
+    name: &str,
+) -> Result<CertificateFile<&'a R>, AllocError>
+    ensures failures { IfOk result (λ file. file.part.failures ≡ 0) }
+{
+    let kept = kept_reason(files, alloc, name)?;
+    let mut file = CertificateFile::new(files, alloc, name)?;
+    if let Some(reason) = kept {
+        file.keep(reason);
+    }
+    Ok(file)
 }
 
 /// Reports why the file or stream with this name failed, if it did.
@@ -60,11 +119,12 @@ fn hint<'a, R: Files, S: Read + Copy, E: Sink>(
     tell_hints(lent.alloc, request, &mut first, &mut second, err);
 }
 
-/// Returns whether there may be hints for a task that ended with this status: it ended because of bad input, or it is a
-/// plan, which may have been printed without configuration words.
+/// Returns whether there may be hints for a task that ended with this status: it ended because of bad input; it is a
+/// plan, which may have been printed without configuration words; its map may be empty; or a certificate was refused.
 fn may_be_hinted(subcommand: Subcommand, status: u8) -> bool {
     match subcommand {
-        Subcommand::Plan => status == 2 || status == 0,
+        Subcommand::Plan | Subcommand::Show => status == 2 || status == 0,
+        Subcommand::Check => status == 2 || status == 1,
         _ => status == 2,
     }
 }
@@ -86,19 +146,18 @@ pub fn perform_on_files<'a, R: Files, S: Read + Copy, O: Write + Drop, E: Sink>(
     let (mut first, mut second) = inputs(lent.files, lent.stdin, &request.task);
     let files = outline_of(&request.task);
     let cert_name = name_or_none(files.cert);
-    let mut cert = CertificateFile::new(lent.files, lent.alloc, cert_name)?;
+    let mut cert = certificate_file(lent.files, lent.alloc, cert_name)?;
     let out = Explained::new(RetryInterrupted::new(stdout));
     let mut out = HeldSink::new(lent.alloc, out)?;
-    let status = perform_request::<_, _, Held, _, E>(
+    let done = run_task::<_, Whole, _, Held, _>(
         lent.alloc,
         request,
         &mut first,
         &mut second,
         &mut cert,
         &mut out,
-        err,
     );
-    let (status, out) = close_output(status, out, err);
+    let (status, out) = close_output(done, out, err);
     if !request.options.hints.are_told(is_terminal) {
         return Ok(status);
     }

@@ -27,7 +27,7 @@ use std::alloc::Global;
 use text_lines::{Direct, LineSink, Sink, Source, write_whole};
 
 /// Prints the failure of a task or its notes on standard error, and returns the exit status.
-fn report<E: Sink>(done: Result<Answered, Trouble<'_>>, err: &mut E) -> u8
+pub(crate) fn report<E: Sink>(done: Result<Answered, Trouble<'_>>, err: &mut E) -> u8
     ensures { result ≡ status_of (status_in done.entry) }
 {
     match done {
@@ -43,7 +43,7 @@ fn report<E: Sink>(done: Result<Answered, Trouble<'_>>, err: &mut E) -> u8
 }
 
 /// Runs the command of a task.
-fn run_task<'a, R: Source, M, C: CertificateSink<M>, L, W: LineSink<L>>(
+pub(crate) fn run_task<'a, R: Source, M, C: CertificateSink<M>, L, W: LineSink<L>>(
     alloc: Global,
     request: &Request<'a>,
     first: &mut R,
