@@ -1,5 +1,5 @@
 -- The stretches of a list of entries as rows.
-use Rattle.std.proofs.Common.{◌≡◌, ℕ, suc, rules, ◌+◌, ◌<◌, List, [], ◌∷◌, All, length, Bool, true, false, Option, None, Some, IfSome, refl, arith}
+use Rattle.std.proofs.Common.{◌≡◌, ℕ, suc, rules, ◌+◌, ◌<◌, List, [], ◌∷◌, All, length, Bool, true, false, Option, None, Some, IfSome, arith}
 use Rattle.std.proofs.Common.{if◌then◌else◌}
 use Rattle.std.specs.List.{AllByRecursion}
 use Rattle.std.proofs.lemmas.List.Elements.{All-from_recursion}

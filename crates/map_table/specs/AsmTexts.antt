@@ -7,6 +7,8 @@ use Rattle.pmp_encoding.specs.declared.region.Entry.{Entry}
 use Rattle.pmp_encoding.specs.declared.xlen.Xlen.{Xlen}
 use Rattle.pmp_encoding.specs.declared.xlen.Xlen.TheVariants.{Rv32, Rv64}
 use Rattle.pmp_encoding.specs.Widths.{whole_word, word_count, word_entries, word_number}
+use Rattle.map_text.specs.declared.listed_entry.ChainedEntry.{ChainedEntry}
+use Rattle.map_text.specs.ListedEntries.{listed_blocks}
 use Rattle.map_text.specs.Placed.{word_from}
 use Rattle.map_text.specs.Texts.{register_text}
 use Rattle.map_table.specs.Names.{address_or_zero, note_text}
@@ -47,7 +49,7 @@ abbrev pub asm_begin : Xlen → Limit → ℕ → List ℕ
 asm_begin xlen limit first = asm_registers_note xlen limit first ++ asm_guard xlen
 
 -- the instructions that write the address register of the list's entry i, with that entry
-abbrev pub asm_address_row : Xlen → ℕ → List Entry → ℕ → List ℕ
+abbrev pub asm_address_row : Xlen → ℕ → List ChainedEntry → ℕ → List ℕ
 asm_address_row xlen first entries i =
     (codes "    li      t0, 0x" ++ register_text xlen (address_or_zero (slice_get entries i))
     ++ codes " /* " ++ note_text (first + i) (slice_get entries i) ++ codes " */\n")
@@ -61,7 +63,7 @@ asm_shared_read xlen first =
     ++ codes "\n    and     t1, t1, t0\n"
 
 -- the instructions that write these bits together with the bytes of the list
-abbrev pub asm_shared_write : Xlen → ℕ → List Entry → List ℕ
+abbrev pub asm_shared_write : Xlen → ℕ → List ChainedEntry → List ℕ
 asm_shared_write xlen first entries =
     codes "    li      t0, 0x" ++ register_text xlen
     (word_from xlen first entries (first / word_entries xlen))
@@ -69,12 +71,12 @@ asm_shared_write xlen first entries =
     ++ decimal (word_number xlen (first / word_entries xlen)) ++ codes ", t0\n"
 
 -- the write of the shared word
-abbrev pub asm_shared_row : Xlen → ℕ → List Entry → ℕ → List ℕ
+abbrev pub asm_shared_row : Xlen → ℕ → List ChainedEntry → ℕ → List ℕ
 asm_shared_row xlen first entries i =
     asm_shared_read xlen first ++ asm_shared_write xlen first entries
 
 -- the instructions that write a word without an entry below the first
-abbrev pub asm_word_row : Xlen → ℕ → List Entry → ℕ → List ℕ
+abbrev pub asm_word_row : Xlen → ℕ → List ChainedEntry → ℕ → List ℕ
 asm_word_row xlen first entries i =
     (codes "    li      t0, 0x" ++ register_text xlen
     (word_from xlen first entries (whole_word xlen first + i)) ++ codes "\n")
@@ -82,7 +84,7 @@ asm_word_row xlen first entries i =
     ++ codes ", t0\n")
 
 -- all words with an entry from the first on, in which those after the list are off
-abbrev pub asm_words : Xlen → Limit → ℕ → List Entry → List ℕ
+abbrev pub asm_words : Xlen → Limit → ℕ → List ChainedEntry → List ℕ
 asm_words xlen limit first entries =
     rows_text (asm_shared_row xlen first entries) 0 (shared_word_count xlen limit first)
     ++ rows_text (asm_word_row xlen first entries) 0
@@ -94,7 +96,7 @@ asm_end None = codes "    sfence.vma\n"
 asm_end (Some name) = codes "    sfence.vma\n    ret\n"
 
 -- the address registers of the entries, then the configuration words
-abbrev pub asm_text : Option (List ℕ) → Xlen → Limit → ℕ → List Entry → List ℕ
+abbrev pub asm_text : Option (List ℕ) → Xlen → Limit → ℕ → List ChainedEntry → List ℕ
 asm_text name xlen limit first entries =
     asm_head xlen first (label_of name) (label_end name)
     ++ ((asm_begin xlen limit first ++ rows_text (asm_address_row xlen first entries) 0
@@ -103,5 +105,10 @@ asm_text name xlen limit first entries =
     ++ asm_end name))
 
 -- the text of entries on a hart from `first` on
+abbrev pub IsAsmListText : Option (List ℕ) → Xlen → Limit → ℕ → List ChainedEntry → List ℕ → Type 0
+IsAsmListText name xlen limit first entries text = text ≡ asm_text name xlen limit first entries
+
+-- the same of NA4 and NAPOT entries
 abbrev pub IsAsmText : Option (List ℕ) → Xlen → Limit → ℕ → List Entry → List ℕ → Type 0
-IsAsmText name xlen limit first entries text = text ≡ asm_text name xlen limit first entries
+IsAsmText name xlen limit first entries =
+    IsAsmListText name xlen limit first (listed_blocks entries)

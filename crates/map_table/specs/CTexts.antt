@@ -9,6 +9,8 @@ use Rattle.pmp_encoding.specs.Limits.{limit_number}
 use Rattle.pmp_encoding.specs.declared.xlen.Xlen.{Xlen}
 use Rattle.pmp_encoding.specs.declared.xlen.Xlen.TheVariants.{Rv32, Rv64}
 use Rattle.pmp_encoding.specs.Widths.{whole_word, word_count, word_entries, word_number}
+use Rattle.map_text.specs.declared.listed_entry.ChainedEntry.{ChainedEntry}
+use Rattle.map_text.specs.ListedEntries.{listed_blocks}
 use Rattle.map_text.specs.Placed.{entry_from, word_from}
 use Rattle.map_text.specs.Texts.{register_text}
 use Rattle.map_table.specs.Names.{address_or_zero, array_link, place_text, prefix_of}
@@ -30,7 +32,7 @@ c_addresses_size Sixteen = codes "addr[16] = {\n"
 c_addresses_size SixtyFour = codes "addr[64] = {\n"
 
 -- an address register: `    0x00000000040001ff, /* 0: 0x0000000010000000, 4 KiB, rw */`
-abbrev pub c_address_row : Xlen → ℕ → List Entry → ℕ → List ℕ
+abbrev pub c_address_row : Xlen → ℕ → List ChainedEntry → ℕ → List ℕ
 c_address_row xlen first entries i =
     codes "    0x" ++ register_text xlen (address_or_zero (entry_from first entries i))
     ++ codes ", /* " ++ place_text first i (entry_from first entries i) ++ codes " */\n"
@@ -48,14 +50,14 @@ c_words_size Rv64 Sixteen = codes "cfg[2] = {\n"
 c_words_size Rv64 SixtyFour = codes "cfg[8] = {\n"
 
 -- a configuration word: `    0x00000000001f181b, /* pmpcfg0 */`
-abbrev pub c_word_row : Xlen → ℕ → List Entry → ℕ → List ℕ
+abbrev pub c_word_row : Xlen → ℕ → List ChainedEntry → ℕ → List ℕ
 c_word_row xlen first entries i =
     (codes "    0x" ++ register_text xlen (word_from xlen first entries i))
     ++ (codes ", /* pmpcfg" ++ decimal (word_number xlen i) ++ codes " */\n")
 
 -- all address registers of a hart, each with its entry, or the note that it is off or unchanged,
 -- and all configuration words
-abbrev pub c_arrays : List ℕ → List ℕ → Xlen → Limit → ℕ → List Entry → List ℕ
+abbrev pub c_arrays : List ℕ → List ℕ → Xlen → Limit → ℕ → List ChainedEntry → List ℕ
 c_arrays prefix link xlen limit first entries =
     (concat (head_begin ∷ head_width xlen ∷ head_rules ∷ head_below first ∷ head_end ∷ c_begin xlen
     ∷ prefix ∷ link ∷ c_addresses_size limit ∷ [])
@@ -174,11 +176,16 @@ c_loader prefix link xlen limit first count =
     ++ c_loader_end)
 
 -- the arrays, followed by the function that writes them
-abbrev pub c_text : Option (List ℕ) → Xlen → Limit → ℕ → List Entry → List ℕ
+abbrev pub c_text : Option (List ℕ) → Xlen → Limit → ℕ → List ChainedEntry → List ℕ
 c_text name xlen limit first entries =
     c_arrays (prefix_of name) (array_link name) xlen limit first entries
     ++ c_loader (prefix_of name) (array_link name) xlen limit first (decimal (length entries))
 
 -- the text of entries on a hart from `first` on
+abbrev pub IsCListText : Option (List ℕ) → Xlen → Limit → ℕ → List ChainedEntry → List ℕ → Type 0
+IsCListText name xlen limit first entries text = text ≡ c_text name xlen limit first entries
+
+-- the same of NA4 and NAPOT entries
 abbrev pub IsCText : Option (List ℕ) → Xlen → Limit → ℕ → List Entry → List ℕ → Type 0
-IsCText name xlen limit first entries text = text ≡ c_text name xlen limit first entries
+IsCText name xlen limit first entries =
+    IsCListText name xlen limit first (listed_blocks entries)

@@ -5,11 +5,16 @@ use Rattle.std.specs.Prelude.{length, slice_get, slice_index}
 use Rattle.pmp_encoding.specs.declared.limit.Limit.{Limit}
 use Rattle.pmp_encoding.specs.declared.limit.Limit.TheVariants.{Sixteen, SixtyFour}
 use Rattle.pmp_encoding.specs.declared.region.Entry.{Entry}
-use Rattle.pmp_encoding.specs.Encoding.{address_of, cfg_of}
+use Rattle.std.specs.List.{concat}
+use Rattle.pmp_encoding.specs.declared.perm.Perm.{Perm}
+use Rattle.pmp_encoding.specs.declared.perm.Perm.TheVariants.{NoAccess}
 use Rattle.pmp_encoding.specs.Limits.{limit_number}
 use Rattle.pmp_encoding.specs.declared.xlen.Xlen.{Xlen}
 use Rattle.pmp_encoding.specs.declared.xlen.Xlen.TheVariants.{Rv32, Rv64}
 use Rattle.pmp_encoding.specs.Widths.{word_count}
+use Rattle.map_text.specs.declared.listed_entry.ChainedEntry.{ChainedEntry}
+use Rattle.map_text.specs.declared.listed_entry.ChainedEntry.TheVariants.{Block, Off, Tor}
+use Rattle.map_text.specs.ListedEntries.{address_in, cfg_in, listed_blocks}
 use Rattle.map_text.specs.Placed.{word_from}
 use Rattle.map_text.specs.Texts.{register_text}
 use Rattle.text_lines.specs.Written.{hex}
@@ -53,29 +58,45 @@ abbrev pub json_fits : ℕ → Limit → ℕ → List ℕ
 json_fits n limit first = if nat_le n (limit_number limit - first)
     then codes "  \"fits\": true,\n" else codes "  \"fits\": false,\n"
 
--- the limit, the width, the first entry and whether they fit, and the text before the entries
-abbrev pub json_entries_begin : Xlen → Limit → ℕ → ℕ → List ℕ
-json_entries_begin xlen limit first n = json_limit limit ++ json_width xlen ++ json_first first
-    ++ json_fits n limit first ++ codes "  \"entries\": ["
+-- the limit, the width, the first entry and whether that many entries fit
+abbrev pub json_hart : Xlen → Limit → ℕ → ℕ → List ℕ
+json_hart xlen limit first n = json_limit limit ++ json_width xlen ++ json_first first
+    ++ json_fits n limit first
+
+-- the number of entries without TOR, if it is given
+abbrev pub json_without_tor : Option ℕ → List ℕ
+json_without_tor (Some n) = codes "  \"without_tor\": " ++ decimal n ++ codes ",\n"
+json_without_tor None = []
+
+-- the text before the entries
+abbrev pub json_entries_begin : Xlen → Limit → ℕ → Option ℕ → ℕ → List ℕ
+json_entries_begin xlen limit first without_tor n = concat (json_hart xlen limit first n
+    ∷ json_without_tor without_tor ∷ codes "  \"entries\": [" ∷ [])
 
 -- the number and the pair of the list's entry i
-abbrev pub json_registers : Xlen → ℕ → ℕ → Entry → List ℕ
+abbrev pub json_registers : Xlen → ℕ → ℕ → ChainedEntry → List ℕ
 json_registers xlen first i e =
     json_before i ++ codes "    {\"index\": " ++ decimal (first + i) ++ codes ", \"cfg\": "
-    ++ decimal (cfg_of e) ++ codes ", \"addr\": \"0x" ++ register_text xlen (address_of e)
+    ++ decimal (cfg_in e) ++ codes ", \"addr\": \"0x" ++ register_text xlen (address_in e)
 
--- the region of an entry in bytes, and its permission
-abbrev pub json_region : Entry → List ℕ
-json_region e = codes "\", \"base\": \"0x" ++ hex 16 e.region.base ++ codes "\", \"size\": "
-    ++ decimal (2 ^ e.region.log2) ++ codes ", \"perm\": \"" ++ perm_word e.perm ++ codes "\"}"
+-- the lowest address of a range, its size in bytes, and its permission
+abbrev pub json_range : ℕ → ℕ → Perm → List ℕ
+json_range base size perm = codes "\", \"base\": \"0x" ++ hex 16 base ++ codes "\", \"size\": "
+    ++ decimal size ++ codes ", \"perm\": \"" ++ perm_word perm ++ codes "\"}"
 
--- an entry: its registers and its region
-abbrev pub json_entry : Xlen → ℕ → ℕ → Option Entry → List ℕ
+-- the range that an entry matches: that of an OFF entry is empty, at the beginning of the chain
+abbrev pub json_region : ChainedEntry → List ℕ
+json_region (Block e) = json_range e.region.base (2 ^ e.region.log2) e.perm
+json_region (Off begin) = json_range begin 0 NoAccess
+json_region (Tor begin end perm) = json_range begin (end - begin) perm
+
+-- an entry: its registers and its range
+abbrev pub json_entry : Xlen → ℕ → ℕ → Option ChainedEntry → List ℕ
 json_entry xlen first i (Some e) = json_registers xlen first i e ++ json_region e
 json_entry xlen first i None = []
 
 -- the list's entry i
-abbrev pub json_entry_row : Xlen → ℕ → List Entry → ℕ → List ℕ
+abbrev pub json_entry_row : Xlen → ℕ → List ChainedEntry → ℕ → List ℕ
 json_entry_row xlen first entries i = json_entry xlen first i (slice_get entries i)
 
 -- the text before the configuration words
@@ -83,23 +104,28 @@ abbrev pub json_words_begin : List ℕ
 json_words_begin = codes "\n  ],\n  \"pmpcfg\": ["
 
 -- a configuration word, in which the bytes of entries below the first are zero
-abbrev pub json_word_row : Xlen → ℕ → List Entry → ℕ → List ℕ
+abbrev pub json_word_row : Xlen → ℕ → List ChainedEntry → ℕ → List ℕ
 json_word_row xlen first entries i = json_before i ++ codes "    \"0x"
     ++ register_text xlen (word_from xlen first entries i) ++ codes "\""
 
 -- the object, with this number of words
-abbrev pub json_text : List ℕ → Xlen → Limit → ℕ → List Entry → ℕ → List ℕ
-json_text name xlen limit first entries words =
+abbrev pub json_text : List ℕ → Xlen → Limit → ℕ → Option ℕ → List ChainedEntry → ℕ → List ℕ
+json_text name xlen limit first without_tor entries words =
     (json_map_begin ++ rows_text (json_name_row name) 0 (length name))
-    ++ ((json_entries_begin xlen limit first (length entries)
+    ++ ((json_entries_begin xlen limit first without_tor (length entries)
     ++ rows_text (json_entry_row xlen first entries) 0 (length entries))
     ++ ((json_words_begin ++ rows_text (json_word_row xlen first entries) 0 words)
     ++ codes "\n  ]\n}\n"))
 
 -- the object, with all words of the hart, or with none if it has no room for the entries
-pub record IsJsonText (name : List ℕ) (xlen : Xlen) (limit : Limit) (first : ℕ)
-    (entries : List Entry) (text : List ℕ) : Type 0 where
+pub record IsJsonListText (name : List ℕ) (xlen : Xlen) (limit : Limit) (first : ℕ)
+    (without_tor : Option ℕ) (entries : List ChainedEntry) (text : List ℕ) : Type 0 where
   pub words : ℕ
   pub fits : length entries ≤ limit_number limit - first → words ≡ word_count xlen limit
   pub too_many : limit_number limit - first < length entries → words ≡ 0
-  pub lines : text ≡ json_text name xlen limit first entries words
+  pub lines : text ≡ json_text name xlen limit first without_tor entries words
+
+-- the object of NA4 and NAPOT entries
+abbrev pub IsJsonText : List ℕ → Xlen → Limit → ℕ → List Entry → List ℕ → Type 0
+IsJsonText name xlen limit first entries =
+    IsJsonListText name xlen limit first None (listed_blocks entries)

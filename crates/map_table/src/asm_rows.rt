@@ -1,13 +1,13 @@
 //! The rows of assembly.
 
-ghost use Rattle.std.specs.Prelude.{◌≡◌, ◌≤◌, length, option_map};
+ghost use Rattle.std.specs.Prelude.{◌≡◌, ◌≤◌, length, map, option_map};
 ghost use Rattle.map_table.specs.AsmTexts.{asm_begin, asm_registers_note, asm_end, asm_guard, asm_shared_write, asm_shared_read, label_end, label_of};
 
 use crate::names::{address_or_zero, entry_at, push_note};
 use crate::register_rows::{Row, Rows};
 use crate::shared::{kept_bits, shared_word_count};
-use map_text::{push_register, word_from};
-use pmp_encoding::{Limit, PackedEntry, Xlen};
+use map_text::{ListedEntry, push_register, word_from};
+use pmp_encoding::{Limit, Xlen};
 use text_lines::{Line, push_decimal, push_text};
 
 /// Returns the last instruction, and the end of the routine if it has a name.
@@ -76,17 +76,17 @@ pub(crate) fn begin(xlen: Xlen, limit: Limit, first: u8) -> Line
 
 /// Two instructions for each address register of the list.
 #[derive(Drop)]
-pub(crate) struct Addresses<'a> {
+pub(crate) struct Addresses<'a, E> {
     pub(crate) xlen: Xlen,
-    pub(crate) entries: &'a [PackedEntry],
+    pub(crate) entries: &'a [E],
     pub(crate) first: u8,
 }
 
-impl Rows for Addresses<'_> {
-    ghost use Rattle.std.specs.Prelude.{◌^◌, ◌-◌};
+impl<E: ListedEntry> Rows for Addresses<'_, E> {
+    ghost use Rattle.std.specs.Prelude.{◌^◌, ◌-◌, map};
     ghost use Rattle.map_table.specs.AsmTexts.{asm_address_row};
 
-    ghost row_text = { λ rows. asm_address_row rows.xlen rows.first rows.entries.now };
+    ghost row_text = { λ rows. asm_address_row rows.xlen rows.first (map E.listed rows.entries.now) };
 
     ghost most = { λ rows. 2 ^ 64 - rows.first };
 
@@ -121,8 +121,8 @@ fn shared_read(xlen: Xlen, first: u8) -> Line
 }
 
 /// Returns the instructions that write these bits together with the bytes of the list.
-fn shared_write(xlen: Xlen, entries: &[PackedEntry], first: u8) -> Line
-    ensures { result ≡ asm_shared_write xlen first entries.now }
+fn shared_write<E: ListedEntry>(xlen: Xlen, entries: &[E], first: u8) -> Line
+    ensures { result ≡ asm_shared_write xlen first (map E.listed entries.now) }
 {
     let word = xlen.word_of(first);
     let mut line = Line::new();
@@ -136,16 +136,17 @@ fn shared_write(xlen: Xlen, entries: &[PackedEntry], first: u8) -> Line
 
 /// The instructions for a shared word.
 #[derive(Drop)]
-pub(crate) struct SharedWords<'a> {
+pub(crate) struct SharedWords<'a, E> {
     pub(crate) xlen: Xlen,
-    pub(crate) entries: &'a [PackedEntry],
+    pub(crate) entries: &'a [E],
     pub(crate) first: u8,
 }
 
-impl Rows for SharedWords<'_> {
+impl<E: ListedEntry> Rows for SharedWords<'_, E> {
+    ghost use Rattle.std.specs.Prelude.{map};
     ghost use Rattle.map_table.specs.AsmTexts.{asm_shared_row};
 
-    ghost row_text = { λ rows. asm_shared_row rows.xlen rows.first rows.entries.now };
+    ghost row_text = { λ rows. asm_shared_row rows.xlen rows.first (map E.listed rows.entries.now) };
 
     ghost most = { λ rows. 1 };
 
@@ -159,18 +160,18 @@ impl Rows for SharedWords<'_> {
 
 /// Two instructions for each word without an entry below the first.
 #[derive(Drop)]
-pub(crate) struct Words<'a> {
+pub(crate) struct Words<'a, E> {
     pub(crate) xlen: Xlen,
-    pub(crate) entries: &'a [PackedEntry],
+    pub(crate) entries: &'a [E],
     pub(crate) first: u8,
 }
 
-impl Rows for Words<'_> {
-    ghost use Rattle.std.specs.Prelude.{◌-◌};
+impl<E: ListedEntry> Rows for Words<'_, E> {
+    ghost use Rattle.std.specs.Prelude.{◌-◌, map};
     ghost use Rattle.pmp_encoding.specs.Widths.{whole_word};
     ghost use Rattle.map_table.specs.AsmTexts.{asm_word_row};
 
-    ghost row_text = { λ rows. asm_word_row rows.xlen rows.first rows.entries.now };
+    ghost row_text = { λ rows. asm_word_row rows.xlen rows.first (map E.listed rows.entries.now) };
 
     ghost most = { λ rows. 64 - whole_word rows.xlen rows.first };
 

@@ -5,8 +5,8 @@ ghost use Rattle.map_table.specs.CTexts.{c_addresses_size, c_begin, c_between, c
 
 use crate::names::{address_or_zero, push_place};
 use crate::register_rows::{Row, Rows};
-use map_text::{entry_from, push_register, word_from};
-use pmp_encoding::{Limit, PackedEntry, Xlen};
+use map_text::{ListedEntry, entry_from, push_register, word_from};
+use pmp_encoding::{Limit, Xlen};
 use text_lines::{Line, push_decimal, push_text};
 
 /// Returns the text before the arrays, with a guard that makes a compiler for the other width fail.
@@ -155,17 +155,17 @@ pub(crate) fn load_begin<'a>() -> &'a [u8]
 
 /// A row for each address register.
 #[derive(Drop)]
-pub(crate) struct Addresses<'a> {
+pub(crate) struct Addresses<'a, E> {
     pub(crate) xlen: Xlen,
-    pub(crate) entries: &'a [PackedEntry],
+    pub(crate) entries: &'a [E],
     pub(crate) first: u8,
 }
 
-impl Rows for Addresses<'_> {
-    ghost use Rattle.std.specs.Prelude.{◌≡◌, ◌^◌};
+impl<E: ListedEntry> Rows for Addresses<'_, E> {
+    ghost use Rattle.std.specs.Prelude.{◌^◌, map};
     ghost use Rattle.map_table.specs.CTexts.{c_address_row};
 
-    ghost row_text = { λ rows. c_address_row rows.xlen rows.first rows.entries.now };
+    ghost row_text = { λ rows. c_address_row rows.xlen rows.first (map E.listed rows.entries.now) };
 
     ghost most = { λ rows. 2 ^ 64 };
 
@@ -186,17 +186,17 @@ impl Rows for Addresses<'_> {
 
 /// A row for each configuration word.
 #[derive(Drop)]
-pub(crate) struct Words<'a> {
+pub(crate) struct Words<'a, E> {
     pub(crate) xlen: Xlen,
-    pub(crate) entries: &'a [PackedEntry],
+    pub(crate) entries: &'a [E],
     pub(crate) first: u8,
 }
 
-impl Rows for Words<'_> {
-    ghost use Rattle.std.specs.Prelude.{◌≡◌};
+impl<E: ListedEntry> Rows for Words<'_, E> {
+    ghost use Rattle.std.specs.Prelude.{map};
     ghost use Rattle.map_table.specs.CTexts.{c_word_row};
 
-    ghost row_text = { λ rows. c_word_row rows.xlen rows.first rows.entries.now };
+    ghost row_text = { λ rows. c_word_row rows.xlen rows.first (map E.listed rows.entries.now) };
 
     ghost most = { λ rows. 64 };
 

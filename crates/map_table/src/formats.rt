@@ -1,13 +1,13 @@
 //! Writes the registers of a list to a sink.
 
-ghost use Rattle.std.specs.Prelude.{◌≡◌, ◌+◌, ◌-◌, ◌^◌, ◌/◌, ◌<◌, ◌≤◌, Some, length, option_map};
+ghost use Rattle.std.specs.Prelude.{◌≡◌, ◌+◌, ◌-◌, ◌^◌, ◌/◌, ◌<◌, ◌≤◌, None, Some, length, map, option_map};
 ghost use Rattle.text_lines.specs.Writings.{writing, Prints, PrintsOne};
 ghost use Rattle.pmp_encoding.specs.Limits.{limit_number};
-ghost use Rattle.pmp_encoding.specs.Widths.{whole_word, word_count, AreReached};
-ghost use Rattle.map_table.specs.AsmTexts.{IsAsmText, asm_head, asm_words};
-ghost use Rattle.map_table.specs.CTexts.{IsCText, c_arrays, c_loader, c_loader_begin, c_word_writes};
+ghost use Rattle.pmp_encoding.specs.Widths.{whole_word, word_count};
+ghost use Rattle.map_table.specs.AsmTexts.{IsAsmListText, asm_head, asm_words};
+ghost use Rattle.map_table.specs.CTexts.{IsCListText, c_arrays, c_loader, c_loader_begin, c_word_writes};
 ghost use Rattle.map_table.specs.Heads.{head_begin, head_below, head_end, head_rules, head_width};
-ghost use Rattle.map_table.specs.JsonTexts.{IsJsonText, json_text};
+ghost use Rattle.map_table.specs.JsonTexts.{IsJsonListText, json_text};
 ghost use Rattle.map_table.specs.SharedTexts.{shared_word_count};
 
 use crate::heads::{head_begin, head_below, head_end, head_rules, head_width};
@@ -15,21 +15,22 @@ use crate::names::{array_link, prefix_of};
 use crate::register_rows::{print_both, print_section, print_texts, print_titled};
 use crate::shared::shared_word_count;
 use crate::{asm_rows, c_rows, c_writes, json_registers};
-use map_text::room_from;
-use pmp_encoding::{Limit, PackedEntry, Xlen};
+use map_text::{ListedEntry, room_from};
+use pmp_encoding::{Limit, Xlen};
 use text_lines::{DeviceFault, Sink, write_whole};
 
 /// Writes the arrays of a hart's registers in C.
-fn print_arrays<W: Sink>(
+fn print_arrays<E: ListedEntry, W: Sink>(
     prefix: &[u8],
     link: &[u8],
     xlen: Xlen,
-    entries: &[PackedEntry],
+    entries: &[E],
     first: u8,
     limit: Limit,
     out: &mut W,
 ) -> Result<(), DeviceFault>
-    ensures { Prints (c_arrays prefix.now link.now xlen limit first entries.now)
+    ensures { Prints (c_arrays prefix.now link.now xlen limit first
+        (map E.listed entries.now))
         (writing W.contents W.failures W.stalls out.old out.new) result }
 {
     let addresses = c_rows::Addresses {
@@ -140,17 +141,18 @@ fn print_loader<W: Sink>(
 /// `pmp_load`. The entries below the first, and their bytes of a word that they share with it, are unchanged.
 ///
 /// On an `Err` only a beginning of this text was written, and the device failed, or accepted no bytes, in this call.
-pub fn print_c<W: Sink>(
+pub fn print_c<E: ListedEntry, W: Sink>(
     name: Option<&str>,
     xlen: Xlen,
-    entries: &[PackedEntry],
+    entries: &[E],
     first: u8,
     limit: Limit,
     out: &mut W,
 ) -> Result<(), DeviceFault>
-    requires reached { AreReached xlen entries.now }
+    requires reached { E.reaches xlen entries.now }
     requires fits { length entries.now ≤ limit_number limit - first }
-    ensures { PrintsOne (IsCText (option_map (λ s. s.now) name.entry) xlen limit first entries.now)
+    ensures { PrintsOne (IsCListText (option_map (λ s. s.now) name.entry) xlen limit first
+        (map E.listed entries.now))
         (writing W.contents W.failures W.stalls out.old out.new) result }
 {
     let prefix = prefix_of(name);
@@ -187,14 +189,14 @@ fn print_asm_head<W: Sink>(
 }
 
 /// Writes the instructions for the configuration words.
-fn print_asm_words<W: Sink>(
+fn print_asm_words<E: ListedEntry, W: Sink>(
     xlen: Xlen,
-    entries: &[PackedEntry],
+    entries: &[E],
     first: u8,
     limit: Limit,
     out: &mut W,
 ) -> Result<(), DeviceFault>
-    ensures { Prints (asm_words xlen limit first entries.now)
+    ensures { Prints (asm_words xlen limit first (map E.listed entries.now))
         (writing W.contents W.failures W.stalls out.old out.new) result }
 {
     let shared = asm_rows::SharedWords {
@@ -218,18 +220,18 @@ fn print_asm_words<W: Sink>(
 /// the first, and their bytes of a word that they share with it, are unchanged.
 ///
 /// On an `Err` only a beginning of this text was written, and the device failed, or accepted no bytes, in this call.
-pub fn print_asm<W: Sink>(
+pub fn print_asm<E: ListedEntry, W: Sink>(
     name: Option<&str>,
     xlen: Xlen,
-    entries: &[PackedEntry],
+    entries: &[E],
     first: u8,
     limit: Limit,
     out: &mut W,
 ) -> Result<(), DeviceFault>
-    requires reached { AreReached xlen entries.now }
+    requires reached { E.reaches xlen entries.now }
     requires fits { length entries.now ≤ limit_number limit - first }
-    ensures { PrintsOne (IsAsmText (option_map (λ s. s.now) name.entry) xlen limit first
-        entries.now)
+    ensures { PrintsOne (IsAsmListText (option_map (λ s. s.now) name.entry) xlen limit first
+        (map E.listed entries.now))
         (writing W.contents W.failures W.stalls out.old out.new) result }
 {
     let addresses = asm_rows::Addresses {
@@ -248,18 +250,20 @@ pub fn print_asm<W: Sink>(
 }
 
 /// Writes the object, with the first words of the hart.
-fn print_object<W: Sink>(
+fn print_object<E: ListedEntry, W: Sink>(
     name: &[u8],
     xlen: Xlen,
-    entries: &[PackedEntry],
+    entries: &[E],
     first: u8,
     limit: Limit,
+    without_tor: Option<usize>,
     count: usize,
     out: &mut W,
 ) -> Result<(), DeviceFault>
     requires numbers { first + length entries.now < 2 ^ 64 }
     requires count { count ≤ 16 }
-    ensures { Prints (json_text name.now xlen limit first entries.now count)
+    ensures { Prints (json_text name.now xlen limit first without_tor (map E.listed entries.now)
+        count)
         (writing W.contents W.failures W.stalls out.old out.new) result }
 {
     let letters = json_registers::Name { bytes: name };
@@ -274,8 +278,14 @@ fn print_object<W: Sink>(
         first,
     };
     print_section(b"{\n  \"map\": \"", &letters, name.len(), out)?;
-    let begin = json_registers::entries_begin(xlen, limit, first, entries.len());
-    print_section(begin.as_slice(), &listed, entries.len(), out)?;
+    let hart = json_registers::hart(xlen, limit, first, entries.len());
+    let without_tor = json_registers::without_tor(without_tor);
+    print_titled(
+        &[hart.as_slice(), without_tor.as_slice(), b"  \"entries\": ["],
+        &listed,
+        entries.len(),
+        out,
+    )?;
     print_section(b"\n  ],\n  \"pmpcfg\": [", &words, count, out)?;
     write_whole(out, b"\n  ]\n}\n")?;
     Ok(())
@@ -298,20 +308,61 @@ fn printed_word_count(xlen: Xlen, entries: usize, first: u8, limit: Limit) -> us
 /// The bytes of entries below the first are zero there.
 ///
 /// On an `Err` only a beginning of this text was written, and the device failed, or accepted no bytes, in this call.
-pub fn print_json<W: Sink>(
-    map: &str,
+pub fn print_json<E: ListedEntry, W: Sink>(
+    name: &str,
     xlen: Xlen,
-    entries: &[PackedEntry],
+    entries: &[E],
     first: u8,
     limit: Limit,
     out: &mut W,
 ) -> Result<(), DeviceFault>
-    requires reached { AreReached xlen entries.now }
+    requires reached { E.reaches xlen entries.now }
     requires numbers { first + length entries.now < 2 ^ 64 }
-    ensures { PrintsOne (IsJsonText map.now xlen limit first entries.now)
+    ensures { PrintsOne (IsJsonListText name.now xlen limit first None (map E.listed entries.now))
         (writing W.contents W.failures W.stalls out.old out.new) result }
 {
     let count = printed_word_count(xlen, entries.len(), first, limit);
-    print_object(map.as_bytes(), xlen, entries, first, limit, count, out)?;
+    print_object(
+        name.as_bytes(),
+        xlen,
+        entries,
+        first,
+        limit,
+        None,
+        count,
+        out,
+    )?;
+    Ok(())
+}
+
+/// Writes a list as [`print_json`], and after whether it fits the number of entries that are needed without TOR.
+///
+/// On an `Err` only a beginning of this text was written, and the device failed, or accepted no bytes, in this call.
+pub fn print_chained_json<E: ListedEntry, W: Sink>(
+    name: &str,
+    xlen: Xlen,
+    entries: &[E],
+    first: u8,
+    limit: Limit,
+    without_tor: usize,
+    out: &mut W,
+) -> Result<(), DeviceFault>
+    requires reached { E.reaches xlen entries.now }
+    requires numbers { first + length entries.now < 2 ^ 64 }
+    ensures { PrintsOne (IsJsonListText name.now xlen limit first (Some without_tor)
+        (map E.listed entries.now))
+        (writing W.contents W.failures W.stalls out.old out.new) result }
+{
+    let count = printed_word_count(xlen, entries.len(), first, limit);
+    print_object(
+        name.as_bytes(),
+        xlen,
+        entries,
+        first,
+        limit,
+        Some(without_tor),
+        count,
+        out,
+    )?;
     Ok(())
 }

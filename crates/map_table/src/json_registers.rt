@@ -1,12 +1,12 @@
 //! The rows of JSON.
 
 ghost use Rattle.std.specs.Prelude.{◌≡◌, ◌+◌, ◌++◌, ◌≤◌, ◌<◌, ◌^◌, length};
-ghost use Rattle.map_table.specs.JsonTexts.{json_before, json_byte, json_entries_begin, json_first, json_fits, json_limit, json_region, json_registers, json_width};
+ghost use Rattle.map_table.specs.JsonTexts.{json_before, json_byte, json_first, json_fits, json_hart, json_limit, json_range, json_region, json_registers, json_width, json_without_tor};
 
 use crate::names::{entry_at, power_of_two};
 use crate::register_rows::{Row, Rows};
-use map_text::{push_register, room_from, word_from};
-use pmp_encoding::{Entry, Limit, PackedEntry, Xlen};
+use map_text::{ChainedEntry, ListedEntry, push_register, room_from, word_from};
+use pmp_encoding::{Limit, Perm, Xlen};
 use text_lines::{Line, push_decimal, push_hex, push_text};
 
 /// Returns the limit.
@@ -56,16 +56,28 @@ fn fits_text<'a>(count: usize, limit: Limit, first: u8) -> &'a [u8]
     }
 }
 
-/// Returns the limit, the width, the first entry and whether the entries fit, and the text before the entries.
-pub(crate) fn entries_begin(xlen: Xlen, limit: Limit, first: u8, count: usize) -> Line
-    ensures { result ≡ json_entries_begin xlen limit first count }
+/// Returns the limit, the width, the first entry and whether that many entries fit.
+pub(crate) fn hart(xlen: Xlen, limit: Limit, first: u8, count: usize) -> Line
+    ensures { result ≡ json_hart xlen limit first count }
 {
     let mut line = Line::new();
     push_text(&mut line, limit_text(limit));
     push_text(&mut line, width_text(xlen));
     push_first(&mut line, first);
     push_text(&mut line, fits_text(count, limit, first));
-    push_text(&mut line, b"  \"entries\": [");
+    line
+}
+
+/// Returns the number of entries without TOR, if it is given.
+pub(crate) fn without_tor(count: Option<usize>) -> Line
+    ensures { result ≡ json_without_tor count }
+{
+    let mut line = Line::new();
+    if let Some(count) = count {
+        push_text(&mut line, b"  \"without_tor\": ");
+        push_decimal(&mut line, count as u64);
+        push_text(&mut line, b",\n");
+    }
     line
 }
 
@@ -123,18 +135,18 @@ impl Rows for Name<'_> {
 
 /// A row for each entry.
 #[derive(Drop)]
-pub(crate) struct Entries<'a> {
+pub(crate) struct Entries<'a, E> {
     pub(crate) xlen: Xlen,
-    pub(crate) entries: &'a [PackedEntry],
+    pub(crate) entries: &'a [E],
     pub(crate) first: u8,
 }
 
 /// Returns the members with the registers of the list's entry i.
-fn registers_of(xlen: Xlen, first: u8, i: usize, entry: &Entry) -> Line
+fn registers_of(xlen: Xlen, first: u8, i: usize, entry: &ChainedEntry) -> Line
     requires { first + i < 2 ^ 64 }
     ensures { result ≡ json_registers xlen first i entry.now }
 {
-    let (cfg, address) = entry.encode();
+    let (cfg, address) = entry.registers();
     let mut line = Line::new();
     push_text(&mut line, json_before(i));
     push_text(&mut line, b"    {\"index\": ");
@@ -146,26 +158,43 @@ fn registers_of(xlen: Xlen, first: u8, i: usize, entry: &Entry) -> Line
     line
 }
 
-/// Returns the members with the region and the permission of an entry.
-fn region_of(entry: &Entry) -> Line
-    ensures { result ≡ json_region entry.now }
+/// Returns the members with the lowest address of a range, its size in bytes and its permission.
+fn range_of(base: u64, size: u64, perm: Perm) -> Line
+    ensures { result ≡ json_range base size perm }
 {
     let mut line = Line::new();
     push_text(&mut line, b"\", \"base\": \"0x");
-    push_hex(&mut line, entry.region.base(), 16);
+    push_hex(&mut line, base, 16);
     push_text(&mut line, b"\", \"size\": ");
-    push_decimal(&mut line, power_of_two(entry.region.log2()));
+    push_decimal(&mut line, size);
     push_text(&mut line, b", \"perm\": \"");
-    push_text(&mut line, entry.perm.word().as_bytes());
+    push_text(&mut line, perm.word().as_bytes());
     push_text(&mut line, b"\"}");
     line
 }
 
-impl Rows for Entries<'_> {
-    ghost use Rattle.std.specs.Prelude.{◌≡◌, ◌^◌, ◌-◌};
+/// Returns the members with the range of an entry.
+fn region_of(entry: &ChainedEntry) -> Line
+    ensures { result ≡ json_region entry.now }
+{
+    match entry {
+        ChainedEntry::Block(entry) => range_of(
+            entry.region.base(),
+            power_of_two(entry.region.log2()),
+            entry.perm,
+        ),
+        ChainedEntry::Off(begin) => range_of(*begin, 0, Perm::NoAccess),
+        ChainedEntry::Tor { begin, end, perm } => {
+            range_of(*begin, end.saturating_sub(*begin), *perm)
+        }
+    }
+}
+
+impl<E: ListedEntry> Rows for Entries<'_, E> {
+    ghost use Rattle.std.specs.Prelude.{◌^◌, ◌-◌, map};
     ghost use Rattle.map_table.specs.JsonTexts.{json_entry_row};
 
-    ghost row_text = { λ rows. json_entry_row rows.xlen rows.first rows.entries.now };
+    ghost row_text = { λ rows. json_entry_row rows.xlen rows.first (map E.listed rows.entries.now) };
 
     ghost most = { λ rows. 2 ^ 64 - rows.first };
 
@@ -185,17 +214,17 @@ impl Rows for Entries<'_> {
 
 /// A row for each configuration word.
 #[derive(Drop)]
-pub(crate) struct Words<'a> {
+pub(crate) struct Words<'a, E> {
     pub(crate) xlen: Xlen,
-    pub(crate) entries: &'a [PackedEntry],
+    pub(crate) entries: &'a [E],
     pub(crate) first: u8,
 }
 
-impl Rows for Words<'_> {
-    ghost use Rattle.std.specs.Prelude.{◌≡◌};
+impl<E: ListedEntry> Rows for Words<'_, E> {
+    ghost use Rattle.std.specs.Prelude.{map};
     ghost use Rattle.map_table.specs.JsonTexts.{json_word_row};
 
-    ghost row_text = { λ rows. json_word_row rows.xlen rows.first rows.entries.now };
+    ghost row_text = { λ rows. json_word_row rows.xlen rows.first (map E.listed rows.entries.now) };
 
     ghost most = { λ rows. 64 };
 

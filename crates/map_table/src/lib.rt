@@ -43,7 +43,7 @@ mod table;
 mod tables;
 
 pub use extent_tree::ExtentTree;
-pub use formats::{print_asm, print_c, print_json};
+pub use formats::{print_asm, print_c, print_chained_json, print_json};
 pub use rows::{count_line, number_line};
 pub use stretch::{Stretch, extents_of, stretches, stretches_by_entries};
 pub use table::{extent_table, table_of};

@@ -1,13 +1,14 @@
 //! Writes the lines of entries into a buffer.
 
-ghost use Rattle.std.specs.Prelude.{◌≡◌, ℕ, ◌+◌, ◌*◌, ◌<◌, ◌≤◌, ◌^◌, ◌++◌, take, length, codes, decimal};
-ghost use Rattle.pmp_encoding.specs.Encoding.{address_of, cfg_of};
+ghost use Rattle.std.specs.Prelude.{◌≡◌, ℕ, ◌+◌, ◌*◌, ◌<◌, ◌≤◌, ◌^◌, ◌++◌, take, length, codes, decimal, map};
 ghost use Rattle.text_lines.specs.Counters.{digits_of};
 ghost use Rattle.text_lines.specs.Written.{hex};
+ghost use Rattle.map_text.specs.ListedEntries.{address_in, cfg_in};
 ghost use Rattle.map_text.specs.Plans.{entries_text};
 ghost use Rattle.map_text.specs.Texts.{entry_text, register_text};
 
-use pmp_encoding::{PackedEntry, Xlen};
+use crate::listed_entry::ListedEntry;
+use pmp_encoding::Xlen;
 use text_lines::{Counter, hex_digit, hex_digits};
 
 /// Maximum number of bytes that are written for an entry: bytes after a short number are written too, and then
@@ -82,21 +83,22 @@ fn put_prefix(buffer: &mut [u8], at: usize) -> usize
 
 /// Writes the line of an entry.
 #[inline(always)]
-fn put_entry(
+fn put_entry<E: ListedEntry>(
     buffer: &mut [u8],
     at: usize,
     xlen: Xlen,
     number: &Counter,
-    entry: &PackedEntry,
+    entry: &E,
 ) -> usize
     requires room { at + 46 ≤ length buffer.old }
     requires len { number.now.len ≤ 20 }
     ensures end { result ≤ at + 46 }
     ensures text { (i : ℕ) → digits_of number.now ≡ decimal i → take result buffer.new
-        ≡ take at buffer.old ++ entry_text xlen i (cfg_of entry.now) (address_of entry.now) }
+        ≡ take at buffer.old ++ entry_text xlen i (cfg_in (E.listed entry.now))
+        (address_in (E.listed entry.now)) }
     ensures room { length buffer.new ≡ length buffer.old }
 {
-    let (cfg, address) = entry.encode();
+    let (cfg, address) = entry.registers();
     let at = put_number(buffer, at, number);
     let at = put_prefix(buffer, at);
     let at = put_byte(buffer, at, cfg);
@@ -106,11 +108,16 @@ fn put_entry(
 }
 
 /// Writes the lines of entries, numbered from `first` on, at the front, and returns the index after them.
-pub fn put_entries(buffer: &mut [u8], xlen: Xlen, entries: &[PackedEntry], first: u64) -> usize
+pub fn put_entries<E: ListedEntry>(
+    buffer: &mut [u8],
+    xlen: Xlen,
+    entries: &[E],
+    first: u64,
+) -> usize
     requires room { 46 * length entries.now ≤ length buffer.old }
     requires numbers { first + length entries.now < 2 ^ 64 }
     ensures end { result ≤ length buffer.new }
-    ensures text { take result buffer.new ≡ entries_text xlen first entries.now }
+    ensures text { take result buffer.new ≡ entries_text xlen first (map E.listed entries.now) }
     ensures room { length buffer.new ≡ length buffer.old }
 {
     let mut number = Counter::of(first);

@@ -16,6 +16,7 @@ mod digests;
 mod entry_lines;
 mod fields;
 mod line_texts;
+mod listed_entry;
 mod map_file;
 mod map_lines;
 mod placed;
@@ -26,6 +27,7 @@ pub use fields::{letters, push_size};
 pub use line_texts::{
     accepted_line, accepted_of_line, count_line, push_register, refused_line, word_line,
 };
+pub use listed_entry::{ChainedEntry, ListedEntry};
 pub use map_file::{MAP_BYTES, MapFileFault, map_of};
 pub use map_lines::raw_says;
 pub use placed::{entry_from, room_from, word_from};

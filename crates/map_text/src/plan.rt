@@ -1,14 +1,15 @@
 //! The output of `plan`.
 
-ghost use Rattle.std.specs.Prelude.{◌+◌, ◌-◌, ◌<◌, ◌≤◌, ◌^◌, length};
+ghost use Rattle.std.specs.Prelude.{◌+◌, ◌-◌, ◌<◌, ◌≤◌, ◌^◌, length, map};
 ghost use Rattle.text_lines.specs.Writings.{writing, Prints, PrintsOne};
-ghost use Rattle.pmp_encoding.specs.Widths.{whole_word, AreReached};
-ghost use Rattle.map_text.specs.Plans.{IsPlanText, entries_text, list_text, words_text};
+ghost use Rattle.pmp_encoding.specs.Widths.{whole_word};
+ghost use Rattle.map_text.specs.Plans.{IsListText, entries_text, list_text, words_text};
 
 use crate::entry_lines::{MOST, put_entries};
 use crate::line_texts::{count_line, word_line};
+use crate::listed_entry::ListedEntry;
 use crate::placed::{room_from, word_from};
-use pmp_encoding::{Limit, PackedEntry, Xlen};
+use pmp_encoding::{Limit, Xlen};
 use text_lines::{DeviceFault, Sink, write_whole};
 
 /// Number of entries whose lines are written to the sink at once: more bytes than a `HeldSink` holds, so that it passes
@@ -16,14 +17,14 @@ use text_lines::{DeviceFault, Sink, write_whole};
 const LINES: usize = 320;
 
 /// Writes a line for each entry.
-fn print_entries<W: Sink>(
+fn print_entries<E: ListedEntry, W: Sink>(
     xlen: Xlen,
-    entries: &[PackedEntry],
+    entries: &[E],
     first: u8,
     out: &mut W,
 ) -> Result<(), DeviceFault>
     requires { first + length entries.now < 2 ^ 64 }
-    ensures { Prints (entries_text xlen first entries.now)
+    ensures { Prints (entries_text xlen first (map E.listed entries.now))
         (writing W.contents W.failures W.stalls out.old out.new) result }
 {
     let mut buffer = [0; LINES * MOST];
@@ -40,14 +41,14 @@ fn print_entries<W: Sink>(
 }
 
 /// Writes the number of entries, and a line for each.
-fn print_list<W: Sink>(
+fn print_list<E: ListedEntry, W: Sink>(
     xlen: Xlen,
-    entries: &[PackedEntry],
+    entries: &[E],
     first: u8,
     out: &mut W,
 ) -> Result<(), DeviceFault>
     requires { first + length entries.now < 2 ^ 64 }
-    ensures { Prints (list_text xlen first entries.now)
+    ensures { Prints (list_text xlen first (map E.listed entries.now))
         (writing W.contents W.failures W.stalls out.old out.new) result }
 {
     let count = count_line(entries.len() as u64);
@@ -57,15 +58,15 @@ fn print_list<W: Sink>(
 }
 
 /// Writes a line for each word below `end`, except words with an entry below the first.
-fn print_words<W: Sink>(
+fn print_words<E: ListedEntry, W: Sink>(
     xlen: Xlen,
-    entries: &[PackedEntry],
+    entries: &[E],
     first: u8,
     end: usize,
     out: &mut W,
 ) -> Result<(), DeviceFault>
     requires end { end ≤ 16 }
-    ensures { Prints (words_text xlen first entries.now (whole_word xlen first)
+    ensures { Prints (words_text xlen first (map E.listed entries.now) (whole_word xlen first)
         (end - whole_word xlen first))
         (writing W.contents W.failures W.stalls out.old out.new) result }
 {
@@ -85,16 +86,16 @@ fn print_words<W: Sink>(
 /// entry below the first, if the hart has room for the entries. Its address registers must reach the regions.
 ///
 /// On an `Err` only a beginning of this text was written, and the device failed, or accepted no bytes, in this call.
-pub fn print_plan<W: Sink>(
+pub fn print_plan<E: ListedEntry, W: Sink>(
     xlen: Xlen,
-    entries: &[PackedEntry],
+    entries: &[E],
     first: u8,
     limit: Limit,
     out: &mut W,
 ) -> Result<(), DeviceFault>
-    requires reached { AreReached xlen entries.now }
+    requires reached { E.reaches xlen entries.now }
     requires numbers { first + length entries.now < 2 ^ 64 }
-    ensures { PrintsOne (IsPlanText xlen limit first entries.now)
+    ensures { PrintsOne (IsListText xlen limit first (map E.listed entries.now))
         (writing W.contents W.failures W.stalls out.old out.new) result }
 {
     let room = room_from(first, limit);

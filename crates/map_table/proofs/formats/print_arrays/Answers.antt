@@ -1,4 +1,4 @@
-use Rattle.std.proofs.Common.{◌++◌, [], ◌∷◌}
+use Rattle.std.proofs.Common.{◌++◌, [], ◌∷◌, map}
 use Rattle.std.proofs.lemmas.Result.{err_from_is_err_and}
 use Rattle.std.specs.List.{concat}
 use Rattle.pmp_encoding.specs.Limits.{limit_number}
@@ -16,7 +16,7 @@ returns-in_err-print_titled g c =
     let link = c.args.link.now in
     let xlen = c.args.xlen in
     let limit = c.args.limit in
-    let entries = c.args.entries.now in
+    let entries = map g.E.ListedEntry.listed c.args.entries.now in
     let start = c.args.first in
     let first : Breaks (concat (head_begin ∷ head_width xlen ∷ head_rules ∷ head_below start ∷ head_end ∷ c_begin xlen ∷ prefix ∷ link
     ∷ c_addresses_size limit ∷ []) ++ rows_text (c_address_row xlen start entries) 0 (limit_number limit))
@@ -34,7 +34,7 @@ returns-in_err-print_titled-2 g c =
     let link = c.args.link.now in
     let xlen = c.args.xlen in
     let limit = c.args.limit in
-    let entries = c.args.entries.now in
+    let entries = map g.E.ListedEntry.listed c.args.entries.now in
     let start = c.args.first in
     let first : TakesAll (concat (head_begin ∷ head_width xlen ∷ head_rules ∷ head_below start ∷ head_end ∷ c_begin xlen ∷ prefix ∷ link
     ∷ c_addresses_size limit ∷ []) ++ rows_text (c_address_row xlen start entries) 0 (limit_number limit))
@@ -54,7 +54,7 @@ returns g c =
     let link = c.args.link.now in
     let xlen = c.args.xlen in
     let limit = c.args.limit in
-    let entries = c.args.entries.now in
+    let entries = map g.E.ListedEntry.listed c.args.entries.now in
     let start = c.args.first in
     let first : TakesAll (concat (head_begin ∷ head_width xlen ∷ head_rules ∷ head_below start ∷ head_end ∷ c_begin xlen ∷ prefix ∷ link
     ∷ c_addresses_size limit ∷ []) ++ rows_text (c_address_row xlen start entries) 0 (limit_number limit))

@@ -1,4 +1,4 @@
-use Rattle.std.proofs.Common.{◌+◌, ◌-◌, ◌≡◌, ◌∙◌, ◌++◌, [], ap, ap₂, sym, refl, append_assoc}
+use Rattle.std.proofs.Common.{◌+◌, ◌-◌, ◌≡◌, ◌∙◌, ◌++◌, [], map, ap, ap₂, sym, refl, append_assoc}
 use Rattle.std.proofs.lemmas.Result.{err_from_is_err_and}
 use Rattle.text_lines.proofs.Writings.{breaks_within, takes_none, takes_then}
 use Rattle.pmp_encoding.specs.Widths.{word_number}
@@ -15,7 +15,7 @@ pub loop-i-preserved : goal.loop-i-preserved
 loop-i-preserved g c =
     let i = c.loop-i.i in
     let first = c.args.first in
-    let entries = c.args.entries.now in
+    let entries = map g.E.ListedEntry.listed c.args.entries.now in
     let w = c.loop-i.invariant in
     let line : c.as_slice.result.now ≡ word_text c.args.xlen (word_number c.args.xlen i) (word_from c.args.xlen first entries i) =
     c.as_slice.ensures.value ∙ c.word_line-line.ensures ∙ ap₂ (word_text c.args.xlen) c.word_number.ensures c.word_from.ensures in (
@@ -28,7 +28,7 @@ pub returns-in_err-write_whole : goal.returns-in_err-write_whole
 returns-in_err-write_whole g c =
     let i = c.loop-i.i in
     let first = c.args.first in
-    let entries = c.args.entries.now in
+    let entries = map g.E.ListedEntry.listed c.args.entries.now in
     let w = c.loop-i.invariant in
     let line : c.as_slice.result.now ≡ word_text c.args.xlen (word_number c.args.xlen i) (word_from c.args.xlen first entries i) =
     c.as_slice.ensures.value ∙ c.word_line-line.ensures ∙ ap₂ (word_text c.args.xlen) c.word_number.ensures c.word_from.ensures in
