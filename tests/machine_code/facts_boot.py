@@ -288,6 +288,7 @@ def start_told(p):
         p.fact(end, z3.UGE(MEMORY(p.first(pointer, 0), host.base), 2) == z3.BoolVal(has_read), "when it reads the host's memory")
         numbers = [it[2] for it in end.log if it[:2] == ("call", "put_number")]
         p.fact(end, z3.And(numbers[0] == p.first(harts, p.layout.harts.count), z3.BoolVal(len(numbers) == 2)), "the number of harts")
+        p.fact(end, [it[2] for it in end.log if it[:2] == ("call", "put_hex")][0] == host.base, "the host's entry")
 
 
 PROOFS = [memory_known, tree_read, board_found, boot_ordered, host_begins, others_let_in, start_told]

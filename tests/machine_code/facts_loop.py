@@ -88,11 +88,13 @@ def has_trap(p, end, worlds, frame, hart):
 
 
 def board_stopped(p):
-    """end_because, ended and trapped call forget first, then print, and then call end_board with a failure; served calls end_because. None of
-    them returns."""
+    """end_because, ended and trapped call forget first, then print their numbers, and then call end_board with a failure; served calls
+    end_because with its own. None of them returns."""
     for name in ("end_because", "ended", "trapped", "served"):
         q = p.again()
-        q.room("end", q.layout.end_frame.size_of, writable=False)
+        frame, fields = q.room("end", q.layout.end_frame.size_of, writable=False), q.layout.end_frame
+        numbers = {"end_because": [var("second")], "ended": [q.first(frame, it) for it in (fields.reason, fields.detail)],
+                   "trapped": [var("first"), var("second"), var("third")]}
         for space in ("private_ranges", "register_sets", "worlds", "stopping"):
             q.space(space)
         state = q.begin(name, var("end") if name == "ended" else var("first"), var("second"), var("third"))
@@ -102,9 +104,12 @@ def board_stopped(p):
         for end in q.run(state):
             calls = [it[1] for it in end.log if it[0] == "call"]
             if name == "served":
-                q.fact(end, end.end == "because" and not calls, "it is left to end_because")
+                q.fact(end, z3.And(z3.BoolVal(end.end == "because" and not calls), end.x[A0 + 1] == var("first")), "it is left to end_because")
                 continue
             q.fact(end, calls[0] == "forget" and calls.count("forget") == 1, "forget comes first")
+            printed = [it[2] for it in end.log if it[0] == "call" and it[1] in ("put_hex", "put_number")]
+            q.fact(end, len(printed) == len(numbers[name]), "how many numbers are printed")
+            q.same(end, zip(printed, numbers[name]), "the numbers that are printed")
             q.fact(end, z3.And(z3.BoolVal(end.end == "ends"), end.x[A0] == 1), "the board ends with a failure")
             q.fact(end, not [it for it in end.log if it[0] == "store" and it[1] != "stack"], "it writes itself")
         p.take(q)
