@@ -14,7 +14,7 @@ RECURSIONS = {
     "device_tree::ways::Way::step": (65, "the same: one bus for each level"),
     "prefix_tree::(map_tree::build_block|overwrite::overwritten_block)": (46, "a block of 2^44 pages has 45 levels"),
     "entry_planner::(costs::add_costs|placement::place_entries)::<.*>": (46, "the same"),
-    "std_alloc::rc::counts::Rc::drop::<.*>": (46, "the same: only halves of blocks are counted"),
+    "std_alloc::rc::counts::(Rc::drop|drop_last)::<.*>": (65, "counted are only halves of blocks and the buses above a node, one for each level of a tree"),
     "core::slice::sort::unstable::quicksort::<.*>": (34, "a heap sort takes over after twice the logarithm of the length, and the heap holds fewer than 2^16 entries"),
     "core::slice::sort::pivot::median_of_medians::<.*>": (7, "each level has an eighth of the elements"),
 }
