@@ -135,7 +135,8 @@ met value flag (Run platform trace measure) options v sound = also (given value 
 met value flag (Plan map cert limit) options v sound = also (given value _ _ v.0) (also (λ taken. sound.0 (sym v.1 ∙ taken ∙ v.0))
     (also (given value _ _ v.2) (also (λ lacks. lacks limit v.2) (also (λ lacks. lacks options.at_most v.3)
     (also (given value _ _ v.4) (also (λ lacks. lacks options.format v.4) (also (given value _ _ v.7) (also (λ lacks. lacks options.xlen v.7)
-    (also (λ lacks. named_well _ options.name lacks.0 v.5 sound.1 lacks.1 lacks.2) (also (λ lacks. lacks options.first limit v.6 v.2 sound.2) tt))))))))))
+    (also (λ lacks. named_well _ options.name lacks.0 v.5 sound.1 lacks.1 lacks.2) (also (λ lacks. lacks options.first limit v.6 v.2 sound.2)
+    (also (λ lacks. lacks.1 (v.1 ∙ sound.3 (v.8.1 lacks.0))) tt)))))))))))
 met value flag (Judge map trace limit) options v sound = also (given value _ _ v.0) (also (given value _ _ v.1) (also (given value _ _ v.2)
     (also (λ lacks. lacks limit v.2) (also (λ twice. sound (same _ _ (sym v.0 ∙ twice.0), same _ _ (sym v.1 ∙ twice.1))) (also (given value _ _ v.5)
     (also (λ lacks. lacks options.xlen v.5) (also (one_answer_met flag options.answers v.4) tt)))))))
@@ -150,7 +151,13 @@ met value flag (Show map limit) options v sound = also (given value _ _ v.0) (al
       | inl listed ↦ not_both options.registers (v.3.1 listed) plain.0
       | inr other ↦ other (v.5 ∙ ap (λ f. Some (table_format_word f)) plain.1)
     ])
-    (also (λ lacks. lacks.1 (v.3.0 (sound.2 (machine_named options.mode (same _ _ (sym v.7 ∙ lacks.0)))))) tt))))))))))))
+    (also (λ lacks. lacks.1 (v.3.0 (sound.2 (machine_named options.mode (same _ _ (sym v.7 ∙ lacks.0))))))
+    (also (λ lacks.
+    let plain = sound.3 (v.8.1 lacks.0) in
+    elim lacks.1 [
+      | inl listed ↦ not_both options.registers (v.3.1 listed) plain.0
+      | inr priced ↦ not_both options.costs (v.6.1 priced) plain.1
+    ]) tt)))))))))))))
 met value flag (Audit map registers) options v sound = also (given value _ _ v.0) (also (given value _ _ v.1)
     (also (λ twice. sound (same _ _ (sym v.0 ∙ twice.0), same _ _ (sym v.1 ∙ twice.1))) (also (given value _ _ v.3) (also (λ lacks. lacks options.xlen v.3)
     (also (given value _ _ v.4) (also (λ lacks. lacks options.mode v.4) tt))))))

@@ -98,6 +98,10 @@ mode_rule = option_rule (codes "mode") (codes "u" ∷ [])
 abbrev pub registers_rule : Rule
 registers_rule = flag_rule (codes "registers")
 
+-- `--tor`, without a value
+abbrev pub tor_rule : Rule
+tor_rule = flag_rule (codes "tor")
+
 -- `--hints`, by default auto
 abbrev pub hints_rule : Rule
 hints_rule = option_rule (codes "hints") (codes "auto" ∷ [])
@@ -109,7 +113,7 @@ rules_by subcommands.Run = file_rule (codes "PLATFORM") true ∷ file_rule (code
     ∷ hints_rule ∷ []
 rules_by subcommands.Plan = file_rule (codes "MAP") true ∷ file_rule (codes "CERT") false
     ∷ entries_rule ∷ at_most_rule ∷ format_rule ∷ option_rule (codes "name") []
-    ∷ option_rule (codes "first") [] ∷ xlen_rule ∷ hints_rule ∷ []
+    ∷ option_rule (codes "first") [] ∷ xlen_rule ∷ tor_rule ∷ hints_rule ∷ []
 rules_by subcommands.Judge = file_rule (codes "MAP") true ∷ file_rule (codes "TRACE") true
     ∷ entries_rule ∷ registers_rule ∷ flag_rule (codes "expect") ∷ flag_rule (codes "explain")
     ∷ xlen_rule ∷ hints_rule ∷ []
@@ -117,7 +121,7 @@ rules_by subcommands.Check = file_rule (codes "MAP") true ∷ file_rule (codes "
     ∷ hints_rule ∷ []
 rules_by subcommands.Show = file_rule (codes "MAP") true ∷ entries_rule ∷ at_most_rule
     ∷ registers_rule ∷ xlen_rule ∷ mode_rule ∷ format_rule ∷ flag_rule (codes "costs")
-    ∷ hints_rule ∷ []
+    ∷ tor_rule ∷ hints_rule ∷ []
 rules_by subcommands.Audit = file_rule (codes "MAP") true ∷ file_rule (codes "REGISTERS") true
     ∷ flag_rule (codes "all") ∷ xlen_rule ∷ mode_rule ∷ hints_rule ∷ []
 rules_by subcommands.Map = file_rule (codes "FILE") true ∷ xlen_rule ∷ mode_rule ∷ hints_rule ∷ []

@@ -43,6 +43,8 @@ pub data Demand : Type 0 where
   of_map : Demand
   of_text : Demand
   of_registers : Demand
+  has_no_certificate : Demand
+  of_table : Demand
   numbers : Text → Demand
   has_pages : Demand
   enters_text : Demand
@@ -56,9 +58,10 @@ pub data Demand : Type 0 where
 -- valid; the map and the other file are both standard input; the certificate is the map; the file
 -- is a listing and a trace at once; answers are to be explained and compared at once; a platform is
 -- named without a trace; a table of registers is requested in another format than text, or costs
--- without the text of a map, or machine mode for a map; the word of the option is not a number; no
--- enclave has these pages, or this entry point; one of the two words for the monitor is not a
--- number; or these are not whole pages
+-- without the text of a map, or machine mode for a map; a chain of TOR entries is requested with a
+-- certificate, or for the table of registers, or with costs; the word of the option is not a
+-- number; no enclave has these pages, or this entry point; one of the two words for the monitor is
+-- not a number; or these are not whole pages
 abbrev pub Lacks : (Text → Option Text) → (Text → Option Text) → Demand → Type 0
 Lacks value flag (has name) = value name ≡ None
 Lacks value flag names_limit = (limit : Limit) → value (codes "entries") ≢ Some (limit_word limit)
@@ -87,6 +90,9 @@ Lacks value flag of_text = IsGiven (flag (codes "costs"))
     × (IsGiven (flag (codes "registers")) ⊎ (value (codes "format") ≢ Some (codes "text")))
 Lacks value flag of_registers = (value (codes "mode") ≡ Some (mode_word Machine))
     × ¬ IsGiven (flag (codes "registers"))
+Lacks value flag has_no_certificate = IsGiven (flag (codes "tor")) × (value (codes "CERT") ≢ None)
+Lacks value flag of_table = IsGiven (flag (codes "tor"))
+    × (IsGiven (flag (codes "registers")) ⊎ IsGiven (flag (codes "costs")))
 Lacks value flag (numbers name) = (n : ℕ) → ¬ IsNumber (value name) n
 Lacks value flag has_pages = (layout : Layout) → IsLaidOut value layout
     → ¬ HasCounts (at_zero layout)
@@ -118,6 +124,8 @@ Tells value of_trace fault = fault ≡ faults.PlatformAlone
 Tells value of_map fault = fault ≡ faults.NoPicture
 Tells value of_text fault = fault ≡ faults.NoCosts
 Tells value of_registers fault = fault ≡ faults.NoMachine
+Tells value has_no_certificate fault = fault ≡ faults.NoTorCertificate
+Tells value of_table fault = fault ≡ faults.NoTor
 Tells value (numbers name) (faults.Number option word) = (option.now ≡ name)
     × (value name ≡ Some word.now)
 Tells value has_pages fault = fault ≡ faults.Pages
@@ -152,13 +160,13 @@ demands_of subcommands.Run = has (codes "PLATFORM") ∷ has (codes "TRACE") ∷ 
 demands_of subcommands.Plan =
     has (codes "MAP") ∷ keeps_map ∷ has (codes "entries") ∷ names_limit ∷ counts
     ∷ has (codes "format") ∷ names_format ∷ has (codes "xlen") ∷ names_width ∷ identifies
-    ∷ begins_inside ∷ []
+    ∷ begins_inside ∷ has_no_certificate ∷ []
 demands_of subcommands.Judge = has (codes "MAP") ∷ has (codes "TRACE") ∷ has (codes "entries")
     ∷ names_limit ∷ reads_once (codes "TRACE") ∷ has (codes "xlen") ∷ names_width ∷ one_answer ∷ []
 demands_of subcommands.Check = has (codes "MAP") ∷ has (codes "CERT") ∷ []
 demands_of subcommands.Show = has (codes "MAP") ∷ has (codes "entries") ∷ names_limit ∷ counts
     ∷ has (codes "xlen") ∷ names_width ∷ has (codes "mode") ∷ names_mode ∷ has (codes "format")
-    ∷ names_table_format ∷ of_map ∷ of_text ∷ of_registers ∷ []
+    ∷ names_table_format ∷ of_map ∷ of_text ∷ of_registers ∷ of_table ∷ []
 demands_of subcommands.Audit = has (codes "MAP") ∷ has (codes "REGISTERS")
     ∷ reads_once (codes "REGISTERS") ∷ has (codes "xlen") ∷ names_width ∷ has (codes "mode")
     ∷ names_mode ∷ []

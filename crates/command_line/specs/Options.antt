@@ -9,7 +9,8 @@ use Rattle.command_line.specs.declared.options.LintKind.TheVariants.{ByName}
 use Rattle.command_line.specs.declared.options.Options.{Options}
 use Rattle.command_line.specs.declared.options.TableFormat.TheVariants as tables
 
--- the default options: a plan or a table as text, from entry 0 on, of any size and without a name;
+-- the default options: a plan or a table as text, from entry 0 on, of any size, without a chain of
+-- TOR entries and without a name;
 -- registers of 64 bits and user mode, and no listing of registers instead of a map; plain answers;
 -- only the first stretch that differs; a file by its name; no costs; and hints on a terminal
 abbrev pub default_options : Options
@@ -18,6 +19,7 @@ default_options = record {
   name = None;
   first = 0;
   at_most = None;
+  tor = false;
   xlen = Rv64;
   mode = User;
   registers = false;

@@ -127,6 +127,7 @@ HasValues value flag (Plan map cert limit) options =
     × (value (codes "name") ≡ option_map (λ s. s.now) options.name)
     × BeginsAt (value (codes "first")) options.first
     × (value (codes "xlen") ≡ Some (width_word options.xlen))
+    × IsFlag (flag (codes "tor")) options.tor
 HasValues value flag (Judge map trace limit) options =
     (value (codes "MAP") ≡ Some map.now)
     × (value (codes "TRACE") ≡ Some trace.now)
@@ -146,6 +147,7 @@ HasValues value flag (Show map limit) options =
     × (value (codes "format") ≡ Some (table_format_word options.table))
     × IsFlag (flag (codes "costs")) options.costs
     × (value (codes "mode") ≡ Some (mode_word options.mode))
+    × IsFlag (flag (codes "tor")) options.tor
 HasValues value flag (Audit map registers) options =
     (value (codes "MAP") ≡ Some map.now)
     × (value (codes "REGISTERS") ≡ Some registers.now)
@@ -184,21 +186,32 @@ IsOfText registers format costs = costs ≡ true → (registers ≡ false) × (f
 abbrev pub IsOfRegisters : Bool → Mode → Type 0
 IsOfRegisters registers mode = mode ≡ Machine → registers ≡ true
 
+-- a plan with a chain of TOR entries has no certificate
+abbrev pub HasNoCertificate : Bool → Option Text → Type 0
+HasNoCertificate tor cert = tor ≡ true → cert ≡ None
+
+-- a chain of TOR entries is planned only for the table of a map without costs
+abbrev pub IsOfTable : Bool → Bool → Bool → Type 0
+IsOfTable tor registers costs = tor ≡ true → (registers ≡ false) × (costs ≡ false)
+
 -- standard input is not both a map and the trace or the registers beside it. A certificate does not
--- replace its map. The name of a plan is an identifier, and its first entry is one of such a hart.
--- A table of registers is text, costs are printed only with the text of a map's table, and machine
--- mode is allowed only for registers. The layout to measure is that of an enclave. The monitor of a
+-- replace its map, and there is none for a plan with a chain of TOR entries. The name of a plan is
+-- an identifier, and its first entry is one of such a hart. A table of registers is text, costs are
+-- printed only with the text of a map's table, machine mode is allowed only for registers, and a
+-- chain only for a map without costs. The layout to measure is that of an enclave. The monitor of a
 -- platform consists of whole pages
 abbrev pub IsSound : Task → Options → Type 0
 IsSound (Plan map cert limit) options =
     (option_map (λ s. s.now) cert ≢ Some map.now)
     × IfSome options.name (λ s. is_identifier s.now ≡ true)
     × (options.first < limit_number limit)
+    × HasNoCertificate options.tor (option_map (λ s. s.now) cert)
 IsSound (Judge map trace limit) options = ¬ ((map.now ≡ input_word) × (trace.now ≡ input_word))
 IsSound (Audit map registers) options = ¬ ((map.now ≡ input_word) × (registers.now ≡ input_word))
 IsSound (Show map limit) options = IsOfMap options.registers options.table
     × IsOfText options.registers options.table options.costs
     × IsOfRegisters options.registers options.mode
+    × IsOfTable options.tor options.registers options.costs
 IsSound (Measure file layout) options = IsEnclave layout
 IsSound (Platform board monitor) options = IsOfPages monitor
 IsSound task options = Unit {0}

@@ -42,6 +42,10 @@ pub enum Fault<'a> {
     NoCosts,
     /// Machine mode is requested for a map.
     NoMachine,
+    /// A certificate is requested for a plan with a chain of TOR entries.
+    NoTorCertificate,
+    /// A chain of TOR entries is requested for the table of registers, or with costs.
+    NoTor,
     /// The certificate would replace the map with this name.
     TakesPlace(&'a str),
     /// The value of a numeric option is not a number.
@@ -106,6 +110,8 @@ impl<'a> Fault<'a> {
             | Fault::NoPicture
             | Fault::NoCosts
             | Fault::NoMachine
+            | Fault::NoTorCertificate
+            | Fault::NoTor
             | Fault::TakesPlace(_)
             | Fault::NoPlace(_) => ErrorKind::ArgumentConflict,
         }
@@ -178,6 +184,12 @@ impl Fault<'_> {
             }
             Fault::NoMachine =>
                 "'--mode m' is for registers, and cannot be used without '--registers'",
+            Fault::NoTorCertificate => {
+                "'--tor' cannot be used with a certificate: there is none for plans with TOR entries yet"
+            }
+            Fault::NoTor => {
+                "'--tor' is for a map, and cannot be used with '--registers' or '--costs'"
+            }
             Fault::Pages => {
                 "an enclave has 1 to 1024 pages of text and data, 1 of text at least, and at most 256 shared"
             }

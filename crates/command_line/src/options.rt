@@ -64,6 +64,8 @@ pub struct Options<'a> {
     pub first: u8,
     /// The maximum number of entries of a plan, if one is requested.
     pub at_most: Option<u64>,
+    /// True if a plan may end with one chain of TOR entries.
+    pub tor: bool,
     /// The width of the hart's registers.
     pub xlen: Xlen,
     /// The mode whose permissions the registers determine.
@@ -95,6 +97,7 @@ impl Default for Options<'_> {
             name: None,
             first: 0,
             at_most: None,
+            tor: false,
             xlen: Xlen::Rv64,
             mode: Mode::User,
             registers: false,

@@ -183,6 +183,12 @@ const COSTS: Argument<'static> = Argument::Flag(
     "Print the number of entries needed without each line of the map",
 );
 
+/// The flag for a chain of TOR entries.
+const TOR: Argument<'static> = Argument::Flag(
+    "tor",
+    "Plan one chain of TOR entries after the NA4 and NAPOT entries",
+);
+
 /// The help texts of a subcommand, and its arguments.
 #[derive(Clone, Copy)]
 pub struct Row<'a> {
@@ -212,7 +218,7 @@ const RUN_ROW: Row<'static> = Row {
 
 const PLAN_ROW: Row<'static> = Row {
     about: "Print the fewest NA4/NAPOT entries that mean a map, and write their certificate",
-    more: "Prints 'entries N', each entry as 'I 0xCC 0xAAAAAAAAAAAAAAAA' (configuration byte and address register),\nand the configuration words if the entries fit. The certificate proves that no shorter list of NA4 and NAPOT entries\nmeans the map; a list with TOR entries can be shorter.\n\nA map file has lines 'BASE SIZE PERM', in bytes: whole pages of 4096 bytes, and one of none, r, rw, x, rx, rwx.\n\n--format c prints the registers as C arrays with a function that loads them, --format asm as assembly that loads\nthem, and --format json as one JSON object.\n\nWith --first K the list starts at entry K. C and assembly leave lower entries unchanged. A lower entry that matches\ntakes precedence: audit all registers to see whether they mean the map. --at-most N does not count lower entries.\n\nWith --xlen 32 the registers are those of RV32, whose words have the bytes of four entries. A map with a byte at or\nbeyond 2^34 is refused, with status 2.\n\nThe registers mean the map if the hart has that width, machine mode writes them on each hart, no entry is locked, the\nhart's grain is at most a page, and addresses are written first, then words, followed by sfence.vma.\n\nExamples:\n  pmpmon plan map.txt map.pmpc --entries 64\n  pmpmon plan map.txt --format c --name board --first 3",
+    more: "Prints 'entries N', each entry as 'I 0xCC 0xAAAAAAAAAAAAAAAA' (configuration byte and address register),\nand the configuration words if the entries fit. The certificate proves that no shorter list of NA4 and NAPOT entries\nmeans the map.\n\nWith --tor the NA4 and NAPOT entries are followed by one chain of TOR entries, which may begin with an OFF entry. No\nshorter list of this kind means the map, and the OFF entry counts. There is no certificate for such a list yet.\n\nA map file has lines 'BASE SIZE PERM', in bytes: whole pages of 4096 bytes, and one of none, r, rw, x, rx, rwx.\n\n--format c prints the registers as C arrays with a function that loads them, --format asm as assembly that loads\nthem, and --format json as one JSON object.\n\nWith --first K the list starts at entry K. C and assembly leave lower entries unchanged. A lower entry that matches\ntakes precedence: audit all registers to see whether they mean the map. --at-most N does not count lower entries.\n\nWith --xlen 32 the registers are those of RV32, whose words have the bytes of four entries. A map with a byte at or\nbeyond 2^34 is refused, with status 2.\n\nThe registers mean the map if the hart has that width, machine mode writes them on each hart, no entry is locked, the\nhart's grain is at most a page, and addresses are written first, then words, followed by sfence.vma.\n\nExamples:\n  pmpmon plan map.txt map.pmpc --entries 64\n  pmpmon plan map.txt --format c --name board --first 3\n  pmpmon plan map.txt --tor",
     arguments: &[
         Argument::File("MAP", "The map file"),
         Argument::MaybeFile("CERT", "The file to write the certificate to"),
@@ -222,6 +228,7 @@ const PLAN_ROW: Row<'static> = Row {
         NAME,
         FIRST,
         XLEN,
+        TOR,
         HINTS,
     ],
 };
@@ -256,7 +263,7 @@ const CHECK_ROW: Row<'static> = Row {
 
 const SHOW_ROW: Row<'static> = Row {
     about: "Print a map or registers as a table of stretches and deciding entries",
-    more: "Prints a row for each stretch of bytes with one permission and one deciding entry: its size, its permission (r, w, x,\nwith a hyphen for each missing one), the entry, and the entries that it overrides there. A row for all other bytes\nfollows, and the fewest NA4/NAPOT entries that the map needs.\n\n--costs adds a line such as 'without line 3: 22 entries' for each line of the map that sets something. --format svg\nprints a picture, and --format json one object, both without costs. None of these works with --registers.\n\nWith --registers, MAP is a listing of registers as for audit: OFF, TOR, NA4 and NAPOT, locked or not. --entries and\n--at-most have no effect then. Registers with reserved values, or an mseccfg with an unknown bit, are refused with one\nline and status 1. With --mode m the table shows the permissions of machine mode.\n\nWith --xlen 32 the registers are those of RV32, and a map with a byte at or beyond 2^34 is refused, with status 2.\n\nExamples:\n  pmpmon show map.txt --entries 64\n  pmpmon show map.txt --format svg > map.svg\n  pmpmon show --registers board.txt",
+    more: "Prints a row for each stretch of bytes with one permission and one deciding entry: its size, its permission (r, w, x,\nwith a hyphen for each missing one), the entry, and the entries that it overrides there. A row for all other bytes\nfollows, and the fewest NA4/NAPOT entries that the map needs. With --tor the entries are those of 'plan --tor', and the\nlast line has the fewest with a chain of TOR entries and the fewest without.\n\n--costs adds a line such as 'without line 3: 22 entries' for each line of the map that sets something. --format svg\nprints a picture, and --format json one object, both without costs. None of these works with --registers,\nand --costs does not work with --tor.\n\nWith --registers, MAP is a listing of registers as for audit: OFF, TOR, NA4 and NAPOT, locked or not. --entries and\n--at-most have no effect then. Registers with reserved values, or an mseccfg with an unknown bit, are refused with one\nline and status 1. With --mode m the table shows the permissions of machine mode.\n\nWith --xlen 32 the registers are those of RV32, and a map with a byte at or beyond 2^34 is refused, with status 2.\n\nExamples:\n  pmpmon show map.txt --entries 64\n  pmpmon show map.txt --format svg > map.svg\n  pmpmon show --registers board.txt",
     arguments: &[
         Argument::File(
             "MAP",
@@ -269,6 +276,7 @@ const SHOW_ROW: Row<'static> = Row {
         MODE,
         TABLE_FORMAT,
         COSTS,
+        TOR,
         HINTS,
     ],
 };

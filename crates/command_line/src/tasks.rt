@@ -4,7 +4,7 @@ ghost use Rattle.std.specs.Prelude.{◌≡◌, ◌≢◌, ◌<◌, ◌↔◌, �
 ghost use Rattle.pmp_match.specs.declared.access.Mode as Mode;
 ghost use Rattle.command_line.specs.Faults.{demands_of, Breaks, IsFirst};
 ghost use Rattle.command_line.specs.Faults.Demand.{of_trace, one_answer, one_kind};
-ghost use Rattle.command_line.specs.Tasks.{input_word, HasAnswers, HasKind, HasValues, IsOfMap, IsOfRegisters, IsOfText, IsRequestOf};
+ghost use Rattle.command_line.specs.Tasks.{input_word, HasAnswers, HasKind, HasNoCertificate, HasValues, IsOfMap, IsOfRegisters, IsOfTable, IsOfText, IsRequestOf};
 ghost use Rattle.command_line.specs.Given.{flags_of, values_of};
 
 use crate::fault::Fault;
@@ -69,6 +69,19 @@ fn cert_in<'a>(given: &ArgMatches<'a>, map: &'a str) -> Result<Option<&'a str>, 
     }
 }
 
+/// Rejects a certificate for a plan with a chain of TOR entries.
+fn refuse_certificate<'a>(tor: bool, cert: Option<&str>) -> Result<(), Fault<'a>>
+    ensures none { IfOk result (λ _. HasNoCertificate tor (option_map (λ s. s.now) cert.entry)) }
+    ensures some { IfErr result (λ _. (tor ≡ true)
+        × (option_map (λ s. s.now) cert.entry ≢ None)) }
+    ensures fault { IfErr result (λ fault. fault ≡ Fault.NoTorCertificate) }
+{
+    if tor && cert.is_some() {
+        return Err(Fault::NoTorCertificate);
+    }
+    Ok(())
+}
+
 fn plan_in<'a>(given: &ArgMatches<'a>, base: Options<'a>) -> Result<Request<'a>, Fault<'a>>
     ensures task { IfOk result (IsRequestOf Subcommand.Plan base.entry.hints
         (values_of given.now) (flags_of given.now)) }
@@ -83,9 +96,12 @@ fn plan_in<'a>(given: &ArgMatches<'a>, base: Options<'a>) -> Result<Request<'a>,
     let xlen = width_in(given)?;
     let name = name_in(given)?;
     let first = first_in(given, limit)?;
+    let tor = is_given(given, "tor");
+    refuse_certificate(tor, cert)?;
     let task = Task::Plan { map, cert, limit };
     let options = Options {
         at_most,
+        tor,
         format,
         name,
         first,
@@ -202,6 +218,19 @@ fn of_registers<'a>(registers: bool, mode: Mode) -> Result<(), Fault<'a>>
     Ok(())
 }
 
+/// Rejects a chain of TOR entries for the table of registers, or with costs.
+fn refuse_chain<'a>(tor: bool, registers: bool, costs: bool) -> Result<(), Fault<'a>>
+    ensures is { IfOk result (λ _. IsOfTable tor registers costs) }
+    ensures none { IfErr result (λ _. (tor ≡ true)
+        × ((registers ≡ true) ⊎ (costs ≡ true))) }
+    ensures fault { IfErr result (λ fault. fault ≡ Fault.NoTor) }
+{
+    if tor && (registers || costs) {
+        return Err(Fault::NoTor);
+    }
+    Ok(())
+}
+
 fn show_in<'a>(given: &ArgMatches<'a>, base: Options<'a>) -> Result<Request<'a>, Fault<'a>>
     ensures task { IfOk result (IsRequestOf Subcommand.Show base.entry.hints
         (values_of given.now) (flags_of given.now)) }
@@ -219,9 +248,12 @@ fn show_in<'a>(given: &ArgMatches<'a>, base: Options<'a>) -> Result<Request<'a>,
     of_map(table, registers)?;
     of_text(table, registers, costs)?;
     of_registers(registers, mode)?;
+    let tor = is_given(given, "tor");
+    refuse_chain(tor, registers, costs)?;
     let task = Task::Show { map, limit };
     let options = Options {
         at_most,
+        tor,
         registers,
         xlen,
         mode,

@@ -2,7 +2,7 @@
 
 /// The version, the kit that verified it, and the proved properties.
 pub const VERSION: &str =
-    "0.3.0 (rattle-kit-13f logic dac8208d650f15bf)\nProved: a plan's entries mean the map and are the fewest NA4/NAPOT entries that do; check accepts right certificates alone; judge and run answer as the registers decide";
+    "0.3.0 (rattle-kit-13f logic dac8208d650f15bf)\nProved: a plan's entries mean the map and are the fewest NA4/NAPOT entries that do, or with --tor the fewest before a TOR chain; check accepts right certificates alone; judge and run answer as the registers decide";
 
 /// The description of the program.
 pub const ABOUT: &str = "Plan, audit and simulate RISC-V physical memory protection (PMP)";
