@@ -1,6 +1,6 @@
 -- The table of a map as one JSON object.
 use Rattle.std.specs.Prelude.{ℕ, ◌+◌, ◌-◌, nat_le, if◌then◌else◌, List, [], ◌∷◌, ◌++◌, Option, Some}
-use Rattle.std.specs.Prelude.{None, codes, decimal, drop}
+use Rattle.std.specs.Prelude.{None, codes, decimal, drop, length}
 use Rattle.pmp_encoding.specs.declared.extent.Extent.{Extent}
 use Rattle.pmp_encoding.specs.declared.limit.Limit.{Limit}
 use Rattle.pmp_encoding.specs.Limits.{limit_number}
@@ -15,10 +15,20 @@ json_fits n limit = if nat_le n (limit_number limit)
     then codes ",\n  \"fits\": true,\n  \"stretches\": ["
     else codes ",\n  \"fits\": false,\n  \"stretches\": ["
 
--- the limit, the number of entries, and whether they fit
-abbrev pub json_head : ℕ → Limit → List ℕ
-json_head n limit = codes "{\n  \"limit\": " ++ decimal (limit_number limit)
-    ++ codes ",\n  \"count\": " ++ decimal n ++ json_fits n limit
+-- the member with the number of entries without TOR, if it is given
+abbrev pub json_without_tor : Option ℕ → List ℕ
+json_without_tor None = []
+json_without_tor (Some n) = codes ",\n  \"without_tor\": " ++ decimal n
+
+-- the limit and the number of entries
+abbrev pub json_counts : ℕ → Limit → List ℕ
+json_counts n limit = codes "{\n  \"limit\": " ++ decimal (limit_number limit)
+    ++ codes ",\n  \"count\": " ++ decimal n
+
+-- the limit, the number of entries, that of entries without TOR, and whether the entries fit
+abbrev pub json_head : ℕ → Option ℕ → Limit → List ℕ
+json_head n without_tor limit =
+    json_counts n limit ++ (json_without_tor without_tor ++ json_fits n limit)
 
 -- the bytes of a stretch, and its permission
 abbrev pub json_stretch : Stretch → List ℕ
@@ -65,6 +75,6 @@ json_rows extents (s ∷ stretches) = codes "\n"
     ++ (json_row extents s ++ json_more extents stretches)
 
 -- the object
-abbrev pub json_text : List Extent → List Stretch → ℕ → Limit → List ℕ
-json_text extents stretches n limit = json_head n limit ++ json_rows extents stretches
-    ++ codes "\n  ]\n}\n"
+abbrev pub json_text : List Extent → List Stretch → Option ℕ → Limit → List ℕ
+json_text extents stretches without_tor limit = json_head (length extents) without_tor limit
+    ++ json_rows extents stretches ++ codes "\n  ]\n}\n"

@@ -4,7 +4,8 @@ ghost use Rattle.std.specs.Prelude.{◌<◌, All, length};
 ghost use Rattle.map_table.specs.Rows.{IsRow};
 
 use crate::fields::short_size;
-use crate::{ExtentTree, Stretch, number_line};
+use crate::rows::number_line;
+use crate::{ExtentTree, Stretch};
 use map_text::letters;
 use permission_map::Memory;
 use std::alloc::{AllocError, Global};

@@ -2,9 +2,10 @@
 
 ghost use Rattle.std.specs.Prelude.{◌≡◌, ◌++◌, ◌<◌, ◌≤◌, All, OnOk, decimal, length};
 ghost use Rattle.map_table.specs.Rows.{IsRow};
-ghost use Rattle.map_table.specs.JsonTables.{json_decider, json_entry, json_fits, json_head, json_more, json_row, json_rows, json_stretch, numbers_more, numbers_text};
+ghost use Rattle.map_table.specs.JsonTables.{json_counts, json_decider, json_entry, json_fits, json_head, json_more, json_row, json_rows, json_stretch, json_without_tor, numbers_more, numbers_text};
 
 use crate::overridden_entries::all_overridden;
+use crate::shown_list::ShownList;
 use crate::{ExtentTree, Stretch};
 use permission_map::Memory;
 use pmp_encoding::Limit;
@@ -16,8 +17,7 @@ pub(crate) const END: &[u8] = b"\n  ]\n}\n";
 
 /// Returns the text on whether a hart has enough entries.
 fn fits<'a>(count: usize, limit: Limit) -> &'a [u8]
-    ensures text { result.now ≡ json_fits count limit }
-    ensures most { length result.now ≤ 40 }
+    ensures { result.now ≡ json_fits count limit }
 {
     if limit.number() as usize >= count {
         b",\n  \"fits\": true,\n  \"stretches\": ["
@@ -26,17 +26,40 @@ fn fits<'a>(count: usize, limit: Limit) -> &'a [u8]
     }
 }
 
-/// Returns the text before the rows.
-pub(crate) fn head(count: usize, limit: Limit) -> Line
-    ensures { result ≡ json_head count limit }
+/// Returns the limit and the number of entries.
+fn counts(count: usize, limit: Limit) -> Line
+    ensures { result ≡ json_counts count limit }
 {
     let mut line = Line::new();
     push_text(&mut line, b"{\n  \"limit\": ");
     push_decimal(&mut line, u64::from(limit.number()));
     push_text(&mut line, b",\n  \"count\": ");
     push_decimal(&mut line, count as u64);
-    push_text(&mut line, fits(count, limit));
     line
+}
+
+/// Returns the member with the number of entries without TOR, if it is given.
+fn without_tor(count: Option<usize>) -> Line
+    ensures { result ≡ json_without_tor count }
+{
+    let mut line = Line::new();
+    if let Some(count) = count {
+        push_text(&mut line, b",\n  \"without_tor\": ");
+        push_decimal(&mut line, count as u64);
+    }
+    line
+}
+
+/// Appends the text before the rows.
+pub(crate) fn push_head(text: &mut Vec<u8>, list: &ShownList<'_>) -> Result<(), Memory>
+    ensures { OnOk result (text.new.items ≡ text.old.items
+        ++ json_head (length list.now.extents.now) list.now.without_tor list.now.limit) }
+{
+    let count = list.extents.len();
+    text.extend_from_slice(counts(count, list.limit).as_slice())?;
+    text.extend_from_slice(without_tor(list.without_tor).as_slice())?;
+    text.extend_from_slice(fits(count, list.limit))?;
+    Ok(())
 }
 
 /// Returns the bytes of a stretch and its permission.

@@ -2,8 +2,8 @@
 //!
 //! A [`Stretch`] is a maximal range of bytes on which the map has one permission and the same entry, or none, matches
 //! first. [`stretches`] returns all of them in order for any list of extents. [`table_of`] prints the table of a map
-//! and its minimal entries, [`extent_table`] that of given extents, [`json_table`] the same as a JSON object, and
-//! [`picture`] as an SVG.
+//! and a list of entries ([`ShownList`]), [`json_table`] the same as a JSON object, and [`picture`] as an SVG.
+//! [`extent_table`] prints the table of registers.
 //!
 //! [`print_c`], [`print_asm`] and [`print_json`] write the registers of a list to a sink, each with its region and
 //! permission. A list may begin at a later entry than the first: C and assembly then leave the entries below it
@@ -37,6 +37,7 @@ mod overridden_entries;
 mod register_rows;
 mod rows;
 mod shared;
+mod shown_list;
 mod standing;
 mod stretch;
 mod table;
@@ -44,7 +45,7 @@ mod tables;
 
 pub use extent_tree::ExtentTree;
 pub use formats::{print_asm, print_c, print_chained_json, print_json};
-pub use rows::{count_line, number_line};
+pub use shown_list::ShownList;
 pub use stretch::{Stretch, extents_of, stretches, stretches_by_entries};
 pub use table::{extent_table, table_of};
 pub use tables::{json_table, picture};

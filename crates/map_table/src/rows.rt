@@ -5,11 +5,12 @@ ghost use Rattle.map_table.specs.Rows.{IsRow};
 
 use crate::fields::push_column;
 use crate::overridden::overridden;
+use crate::shown_list::ShownList;
 use crate::{ExtentTree, Stretch};
 use arrayvec::ArrayString;
 use map_text::letters;
 use permission_map::Memory;
-use pmp_encoding::{Limit, Perm};
+use pmp_encoding::Perm;
 use std::fmt;
 use std::fmt::Write;
 use text_lines::{Line, push_text};
@@ -48,7 +49,7 @@ fn write_overridden(words: &mut Words, behind: &[usize]) -> fmt::Result {
 }
 
 /// Returns the line of the deciding entry and the entries that it overrides.
-pub fn number_line(extents: &ExtentTree, i: usize, stretch: &Stretch) -> Line
+pub(crate) fn number_line(extents: &ExtentTree, i: usize, stretch: &Stretch) -> Line
     requires { i < length extents.now }
 {
     let behind = overridden(extents, i, stretch);
@@ -137,16 +138,23 @@ pub(crate) fn push_rest(
     Ok(())
 }
 
-/// Returns the line of the fewest NA4 and NAPOT entries and whether they fit the limit.
-pub fn count_line(count: usize, limit: Limit) -> Line {
-    let number = limit.number();
+/// Returns the line of the number of entries and whether they fit the limit.
+pub(crate) fn count_line(list: &ShownList<'_>) -> Line {
+    let count = list.extents.len();
+    let number = list.limit.number();
     let fits = if number as usize >= count {
         "fits"
     } else {
         "does not fit"
     };
     let mut words = Words::new();
-    let _ = writeln!(words, "fewest NA4/NAPOT entries: {count}; {fits} {number}");
+    let _ = match list.without_tor {
+        None => writeln!(words, "fewest NA4/NAPOT entries: {count}; {fits} {number}"),
+        Some(blocks) => writeln!(
+            words,
+            "fewest entries with a TOR chain: {count} ({blocks} without TOR); {fits} {number}"
+        ),
+    };
     line_of(&words)
 }
 

@@ -4,9 +4,10 @@ ghost use Rattle.std.specs.Prelude.{All};
 ghost use Rattle.pmp_match.specs.RegisterDecision.{IsWords};
 
 use crate::rows::{count_line, on_line, push_rest, push_rows};
-use crate::{ExtentTree, extents_of, stretches, stretches_by_entries};
+use crate::shown_list::ShownList;
+use crate::{ExtentTree, stretches};
 use permission_map::{Memory, PermissionMap};
-use pmp_encoding::{Entry, Limit, Perm};
+use pmp_encoding::Perm;
 use pmp_match::Extent;
 use std::alloc::Global;
 
@@ -19,21 +20,17 @@ const HEAD: &[u8] = b"from               to                 size    perm by\n";
 /// The names of the columns of registers; L is the lock bit.
 const REGISTER_HEAD: &[u8] = b"from               to                 size    perm L by\n";
 
-/// Returns the table of a map and a list of entries, for a hart with this limit. The only error is a failed allocation.
-pub fn table_of(
-    alloc: Global,
-    map: &PermissionMap,
-    entries: &[Entry],
-    limit: Limit,
-) -> Result<Vec<u8>, Memory> {
-    let extents = extents_of(alloc, entries)?;
-    let all = stretches_by_entries(alloc, map, entries)?;
-    let tree = ExtentTree::new(alloc, extents.as_slice())?;
+/// Returns the table of a map and a list of entries. The only error is a failed allocation.
+pub fn table_of(alloc: Global, map: &PermissionMap, list: &ShownList<'_>) -> Result<Vec<u8>, Memory>
+    requires { All IsWords list.now.extents.now }
+{
+    let all = stretches(alloc, map, list.extents)?;
+    let tree = ExtentTree::new(alloc, list.extents)?;
     let mut text = Vec::new(alloc);
     text.extend_from_slice(HEAD)?;
     push_rows(&mut text, &tree, &[], all.as_slice())?;
     push_rest(&mut text, &[], all.as_slice(), Perm::NoAccess, SPACE_END)?;
-    let count = count_line(entries.len(), limit);
+    let count = count_line(list);
     text.extend_from_slice(count.as_slice())?;
     Ok(text)
 }

@@ -1,7 +1,7 @@
 //! The table of a map as text, as JSON and as a picture.
 
 use crate::formats::{BOARD, entries_of};
-use map_table::{json_table, picture, table_of};
+use map_table::{ShownList, extents_of, json_table, picture, table_of};
 use map_text::map_of;
 use pmp_encoding::Limit;
 use std::alloc::Global;
@@ -15,12 +15,17 @@ const MAP: &[u8] = b"0x80000000 0x8000000 rwx\n0x80000000 0x200000 none\n0x10000
 fn expect_tables(rt: &impl Abort, alloc: Global, text: &[u8], object: &[u8]) {
     let map = map_of(alloc, MAP).expect(rt, "a map");
     let three = entries_of(rt, alloc, BOARD);
-    let limit = Limit::Sixteen;
-    let table = table_of(alloc, &map, three.as_slice(), limit).expect(rt, "memory");
+    let extents = extents_of(alloc, three.as_slice()).expect(rt, "memory");
+    let list = ShownList {
+        extents: extents.as_slice(),
+        without_tor: None,
+        limit: Limit::Sixteen,
+    };
+    let table = table_of(alloc, &map, &list).expect(rt, "memory");
     assert!(rt; table.as_slice() == text);
-    let json = json_table(alloc, &map, three.as_slice(), limit).expect(rt, "memory");
+    let json = json_table(alloc, &map, &list).expect(rt, "memory");
     assert!(rt; json.as_slice().starts_with(object));
-    let drawn = picture(alloc, &map, three.as_slice(), limit).expect(rt, "memory");
+    let drawn = picture(alloc, &map, &list).expect(rt, "memory");
     assert!(rt; drawn.as_slice().ends_with(b"</g>\n</svg>\n"));
 }
 
