@@ -10,6 +10,10 @@
 //! ```
 #![tactic(auto)]
 
+mod extents;
+
+pub use extents::chain_extents;
+
 ghost use Rattle.std.specs.Prelude.{◌≡◌, ◌++◌, ◌^◌, ◌<◌, ℕ, IfOk, IfSome, OnOk, map};
 ghost use Rattle.pmp_encoding.specs.declared.xlen.Xlen.{Xlen};
 ghost use Rattle.map_text.specs.ListedEntries.{AreWithin, listed_blocks, pair_in};
