@@ -25,7 +25,7 @@ near_all [] near = tt
 near_all (e ∷ es) near =
     let both : (is_near e ≡ true) × (list_all is_near es ≡ true) = and_parts (is_near e) (list_all is_near es) near in (leb-true _ _ both.0, near_all es both.1)
 
-all_near : (es : List Entry) → AllByRecursion (EndsWithin 22) es → list_all is_near es ≡ true
+pub all_near : (es : List Entry) → AllByRecursion (EndsWithin 22) es → list_all is_near es ≡ true
 all_near [] within = refl
 all_near (e ∷ es) within = and_from (is_near e) (list_all is_near es) (le-leb _ _ within.0) (all_near es within.1)
 

@@ -1,3 +1,4 @@
+pub mod ChainedPlans
 pub mod Ends
 pub mod FarPages
 pub mod Judgements

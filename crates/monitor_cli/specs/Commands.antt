@@ -1,20 +1,24 @@
 -- The ends of commands that print a result about their inputs: each has a relation for its inputs
 -- and its decision, and one for its failures.
 use Rattle.std.specs.Prelude.{◌≡◌, ◌≢◌, ◌⊎◌, ℕ, ◌^◌, Bool, true, false, List, None, Option}
-use Rattle.std.specs.Prelude.{Some, Result, Ok, Err}
+use Rattle.std.specs.Prelude.{Some, Result, Ok, Err, map}
 use Rattle.std.specs.Borrow.{Bor}
 use Rattle.text_lines.specs.Writings.{Breaks, IsUnwritten, TakesAll, Writing}
 use Rattle.pmp_encoding.specs.declared.limit.Limit.{Limit}
+use Rattle.pmp_encoding.specs.declared.extent.Extent.{Extent}
 use Rattle.pmp_encoding.specs.declared.region.Entry.{Entry}
 use Rattle.pmp_encoding.specs.declared.xlen.Xlen.{Xlen}
 use Rattle.pmp_encoding.specs.Widths.{AreReached}
 use Rattle.pmp_match.specs.declared.access.Mode.{Mode}
 use Rattle.pmp_match.specs.declared.access.Mode.TheVariants.{Machine}
+use Rattle.pmp_match.specs.Lists.{matched_by}
 use Rattle.pmp_match.specs.Meaning.{View, IsFewest}
 use Rattle.permission_map.specs.declared.runs.Run.{Run}
 use Rattle.permission_map.specs.Runs.{view_of_runs}
 use Rattle.map_text.specs.MapFile.{Makes}
+use Rattle.map_text.specs.declared.listed_entry.ChainedEntry.{ChainedEntry}
 use Rattle.map_table.specs.FormattedTables.{IsJsonTable}
+use Rattle.chain_entries.specs.ChainEntries.{extent_in}
 use Rattle.register_audit.specs.Audits.{IsAudit}
 use Rattle.register_audit.specs.Maps.{AreTooFine, IsMapFile}
 use Rattle.register_audit.specs.Tables.{IsRegisterTable}
@@ -34,7 +38,7 @@ use Rattle.program_files.specs.declared.trouble.Trouble.TheVariants.{Memory, Out
 use Rattle.program_files.specs.Reading.{Reading, IsUnread, HasBytes, HasNoBytes, HasMap, HasNoMap}
 use Rattle.monitor_cli.specs.Answered.{answer_status}
 use Rattle.monitor_cli.specs.CertifiedPlan.{IsPlanned, IsUnplanned}
-use Rattle.monitor_cli.specs.Plan.{HasNoPlan}
+use Rattle.monitor_cli.specs.ChainedPlan.{IsChainPlanned, IsChainUnplanned, IsNumberWithoutTor}
 use Rattle.monitor_cli.specs.Verdicts.{IsVerdict}
 
 -- the end of a command: it prints a text of this kind and returns its decision; or the device
@@ -83,25 +87,51 @@ IsUnaudited map registers options first second trouble =
     × IsUnplanned (view_of_runs runs) options.xlen None map trouble)
     ⊎ HasUnknown registers options.xlen second trouble))
 
--- the table of a map in a format: for JSON it is the object of its stretches; other formats are for
--- people and have no contract
-abbrev pub IsShown : TableFormat → View → List Entry → Limit → List ℕ → Type 0
-IsShown tables.Text view entries limit text = Unit {0}
-IsShown tables.Svg view entries limit text = Unit {0}
-IsShown tables.Json view entries limit text = IsJsonTable view entries limit text
+-- the table of a map in a format, by the addresses that each entry matches, with the number of
+-- entries without TOR, if it is given: for JSON it is the object of its stretches; other formats
+-- are for people and have no contract
+abbrev pub IsShown : TableFormat → View → List Extent → Option ℕ → Limit → List ℕ → Type 0
+IsShown tables.Text view extents without_tor limit text = Unit {0}
+IsShown tables.Svg view extents without_tor limit text = Unit {0}
+IsShown tables.Json view extents without_tor limit text =
+    IsJsonTable view extents without_tor limit text
 
--- `show` reads the map and prints the table of its stretches, if the hart's address registers reach
--- its entries
+-- the table of a view's NA4 and NAPOT entries, if the hart's address registers reach them
+abbrev pub IsBlockTable : Limit → Options → View → List ℕ → Type 0
+IsBlockTable limit options view text = (entries : List Entry)
+    × IsPlanned view options.at_most entries × AreReached options.xlen entries
+    × IsShown options.table view (matched_by entries) None limit text
+
+-- the table of a view's entries with a chain of TOR entries, from entry 0 on
+abbrev pub IsChainTable : Limit → Options → View → List ℕ → Type 0
+IsChainTable limit options view text = (entries : List ChainedEntry) × (without_tor : ℕ)
+    × IsChainPlanned view options.xlen 0 options.at_most entries
+    × IsNumberWithoutTor view without_tor
+    × IsShown options.table view (map extent_in entries) (Some without_tor) limit text
+
+-- the table of a view, with `--tor` or without
+abbrev pub IsTable : Bool → Limit → Options → View → List ℕ → Type 0
+IsTable true limit options view text = IsChainTable limit options view text
+IsTable false limit options view text = IsBlockTable limit options view text
+
+-- `show` reads the map and prints the table of its stretches
 abbrev pub IsMapShown : {R : Type 0} → Limit → Options → Reading R → List ℕ → Bool → Type 0
 IsMapShown limit options first text meant = (bytes : List ℕ) × (runs : List Run)
-    × (entries : List Entry) × HasBytes (2 ^ 20) first bytes × Makes bytes runs
-    × IsPlanned (view_of_runs runs) options.at_most entries × AreReached options.xlen entries
-    × IsShown options.table (view_of_runs runs) entries limit text
-    × (meant ≡ true)
+    × HasBytes (2 ^ 20) first bytes × Makes bytes runs
+    × IsTable options.tor limit options (view_of_runs runs) text × (meant ≡ true)
+
+-- the reason why there is no table of a view, with `--tor` or without
+abbrev pub HasNoTable : Bool → View → Options → Bor (List ℕ) → Trouble → Type 0
+HasNoTable true view options map trouble =
+    IsChainUnplanned view options.xlen 0 options.at_most map trouble
+HasNoTable false view options map trouble =
+    IsUnplanned view options.xlen options.at_most map trouble
 
 -- the reason why there is no table of a map
 abbrev pub IsMapUnshown : {R : Type 0} → Bor (List ℕ) → Options → Reading R → Trouble → Type 0
-IsMapUnshown map options first trouble = HasNoPlan map options.xlen options.at_most first trouble
+IsMapUnshown map options first trouble = HasNoMap map first trouble
+    ⊎ ((runs : List Run) × HasMap first runs
+    × HasNoTable options.tor (view_of_runs runs) options map trouble)
 
 -- `show --registers` reads the listing of registers and returns whether they mean something
 abbrev pub AreRegistersShown : {R : Type 0} → Options → Reading R → List ℕ → Bool → Type 0

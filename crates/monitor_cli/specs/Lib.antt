@@ -1,6 +1,7 @@
 pub use Rattle.hart_trace.specs.Answers
 pub mod Answered
 pub mod CertifiedPlan
+pub mod ChainedPlan
 pub mod Commands
 pub mod Ends
 pub mod Expected

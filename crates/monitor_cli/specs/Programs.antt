@@ -30,7 +30,7 @@ abbrev pub Comes : {R C W : Type 0} → Task → Options → Reading R → Readi
 Comes (tasks.Run platform trace measure) options first second cert out done =
     Runs options.answers platform trace measure first second out done × WritesNothing cert
 Comes (tasks.Plan map file limit) options first second cert out done =
-    Plans map file limit options first cert out done × IsUnread second
+    Plans options.tor map file limit options first cert out done × IsUnread second
 Comes (tasks.Judge file trace limit) options first second cert out done =
     JudgesBy options.registers file trace limit options first second out done × WritesNothing cert
 Comes (tasks.Check map file) options first second cert out done =

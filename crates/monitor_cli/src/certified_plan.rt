@@ -19,6 +19,18 @@ use program_files::Trouble;
 use std::alloc::Global;
 use text_lines::DeviceFault;
 
+/// Checks that a number of entries is within the bound.
+pub(crate) fn check_count<'a>(needed: u64, most: Option<u64>) -> Result<(), Trouble<'a>>
+    ensures within { IfOk result (λ _. IsWithin most needed) }
+    ensures beyond { IfErr result (λ trouble.
+        IsBeyond most needed × (trouble ≡ Trouble.NeedsEntries needed)) }
+{
+    match most {
+        Some(most) if most < needed => Err(Trouble::NeedsEntries { needed }),
+        _ => Ok(()),
+    }
+}
+
 /// Checks that a plan is within the bound.
 fn within<'a>(plan: &Plan<PackedEntry>, most: Option<u64>) -> Result<(), Trouble<'a>>
     ensures within { IfOk result (λ _. IsWithin most (length plan.now.entries)) }
@@ -27,11 +39,7 @@ fn within<'a>(plan: &Plan<PackedEntry>, most: Option<u64>) -> Result<(), Trouble
         IsBeyond most (length plan.now.entries)
         × (trouble ≡ Trouble.NeedsEntries (length plan.now.entries))) }
 {
-    let needed = u64::from(plan.needed());
-    match most {
-        Some(most) if most < needed => Err(Trouble::NeedsEntries { needed }),
-        _ => Ok(()),
-    }
+    check_count(u64::from(plan.needed()), most)
 }
 
 /// Checks that the hart's address registers reach all entries of a plan.

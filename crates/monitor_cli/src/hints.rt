@@ -1,6 +1,7 @@
 //! Hints: `lint`'s line-by-line messages for the inputs of a task that ended because of bad input.
 
 use crate::certified_plan::plan_within;
+use crate::chained_plan::chain_within;
 use crate::forms::{
     FileOrHint, Form, HINT_PIECES, Hint, bytes_or_hint, hint_of, hints_for, hints_in, hints_of,
     line_hint, rest_hint, size_hint,
@@ -30,35 +31,59 @@ struct Bounds {
     words: Option<u64>,
     /// The width of the hart's registers.
     xlen: Xlen,
-    /// True if it is pointed out that a map permits nothing.
-    tells_empty: bool,
+    /// The hart's entry at which a plan starts.
+    first: u8,
+    /// True for a command that makes a plan: it points out that a map permits nothing, and has the option `--tor`.
+    is_plan: bool,
+    /// True if that option was given.
+    tor: bool,
     /// True if the hint for a map that needs too many entries is followed by the costs of its lines.
     costs: bool,
 }
 
+impl Bounds {
+    /// Returns whether that many entries are within both bounds.
+    fn allow(self, needed: u64) -> bool {
+        needed <= self.most.unwrap_or(u64::MAX) && needed <= self.words.unwrap_or(u64::MAX)
+    }
+}
+
 /// Returns the hint for a map that needs more entries than the maximum, or than the configuration words have room for,
-/// or for one that is empty, if that is pointed out.
-fn need_hint(alloc: Global, name: &str, bounds: Bounds, needed: u64) -> Hint<'static> {
-    if needed == 0 && bounds.tells_empty {
+/// or for one that is empty, if that is pointed out. `with_tor` is the number of entries that it needs with `--tor`, if
+/// that option could be given.
+fn need_hint(
+    alloc: Global,
+    name: &str,
+    bounds: Bounds,
+    needed: u64,
+    with_tor: Option<u64>,
+) -> Hint<'static> {
+    if needed == 0 && bounds.is_plan {
         let said = b": the map is empty: no page has a permission\n";
         return Ok(Some(hint_of(alloc, name, said)?));
     }
     let entries = if needed == 1 { "entry" } else { "entries" };
-    if let Some(most) = bounds.most {
-        if most < needed {
-            let said = format!(in alloc; ": needs {needed} {entries}, at most {most}\n")?;
-            return Ok(Some(hint_of(alloc, name, said.as_bytes())?));
+    let said = match (bounds.most, bounds.words) {
+        (Some(most), _) if most < needed => {
+            format!(in alloc; ": needs {needed} {entries}, at most {most}")?
         }
-    }
-    if let Some(there) = bounds.words {
-        if there < needed {
-            let said = format!(in alloc;
-                ": needs {needed} {entries}, {there} are there: no configuration words\n"
-            )?;
-            return Ok(Some(hint_of(alloc, name, said.as_bytes())?));
+        (_, Some(there)) if there < needed => format!(in alloc;
+            ": needs {needed} {entries}, {there} are there: no configuration words"
+        )?,
+        _ => return Ok(None),
+    };
+    let line = match with_tor {
+        Some(enough) if bounds.allow(enough) => {
+            let are = if enough == 1 {
+                "entry is"
+            } else {
+                "entries are"
+            };
+            format!(in alloc; "{said}; with --tor {enough} {are} enough\n")?
         }
-    }
-    Ok(None)
+        _ => format!(in alloc; "{said}\n")?,
+    };
+    Ok(Some(hint_of(alloc, name, line.as_bytes())?))
 }
 
 /// Returns the hint for a platform that does not boot.
@@ -72,10 +97,12 @@ fn boot_hint(alloc: Global, name: &str, platform: Platform) -> Hint<'static> {
                 most,
                 words: None,
                 xlen: Xlen::Rv64,
-                tells_empty: false,
+                first: 0,
+                is_plan: false,
+                tor: false,
                 costs: false,
             };
-            need_hint(alloc, name, bounds, needed)
+            need_hint(alloc, name, bounds, needed, None)
         }
         Err(BootFault::Memory) => Err(Trouble::Memory),
     }
@@ -105,21 +132,35 @@ fn hints_of_run<'a, R: Source>(
     hints_of(alloc, Form::Trace(Taker::Run { harts }), trace, second)
 }
 
-/// Returns the number of entries that the map in a map file needs. A map that the hart's address registers do not reach
-/// is an error, unless it needs too many entries.
+/// Returns the number of entries that a map needs, with a chain of TOR entries or without. A map that the hart's address
+/// registers do not reach is an error, unless it needs too many entries without a chain.
 fn needed_by<'a>(
     alloc: Global,
     name: &'a str,
     bounds: Bounds,
-    bytes: &[u8],
+    tor: bool,
+    map: &PermissionMap,
 ) -> Result<u64, Trouble<'a>> {
-    if bytes.len() > u32::MAX as usize {
-        return Err(Trouble::TooLarge { file: name });
+    if tor {
+        let plan = chain_within(alloc, name, map, bounds.xlen, bounds.first, None)?;
+        return Ok(plan.entries.len() as u64);
     }
-    let map = map_by(alloc, name, bytes)?;
-    match plan_within(alloc, name, &map, bounds.xlen, bounds.most) {
+    match plan_within(alloc, name, map, bounds.xlen, bounds.most) {
         Ok(plan) => Ok(plan.entries().len() as u64),
         Err(Trouble::NeedsEntries { needed }) => Ok(needed),
+        Err(trouble) => Err(trouble),
+    }
+}
+
+/// Returns the hint that a map needs too many entries, with the number for `--tor` if that option could be given.
+fn count_hint<'a>(alloc: Global, name: &'a str, bounds: Bounds, map: &PermissionMap) -> Hint<'a> {
+    let needed = needed_by(alloc, name, bounds, bounds.tor, map)?;
+    if bounds.tor || !bounds.is_plan || bounds.allow(needed) {
+        return need_hint(alloc, name, bounds, needed, None);
+    }
+    match needed_by(alloc, name, bounds, true, map) {
+        Ok(enough) => need_hint(alloc, name, bounds, needed, Some(enough)),
+        Err(Trouble::TooFar { .. }) => need_hint(alloc, name, bounds, needed, None),
         Err(trouble) => Err(trouble),
     }
 }
@@ -139,8 +180,11 @@ fn hints_of_map<'a, R: Source>(
     if let Some(hints) = hints_for(alloc, Form::Map, name, bytes.as_slice())? {
         return Ok(Some(hints));
     }
-    let needed = needed_by(alloc, name, bounds, bytes.as_slice())?;
-    let Some(hint) = need_hint(alloc, name, bounds, needed)? else {
+    if bytes.len() > u32::MAX as usize {
+        return Err(Trouble::TooLarge { file: name });
+    }
+    let map = map_by(alloc, name, bytes.as_slice())?;
+    let Some(hint) = count_hint(alloc, name, bounds, &map)? else {
         return Ok(None);
     };
     if !bounds.costs || bytes.len() > MAP_BYTES {
@@ -159,7 +203,7 @@ fn hints_of_file<'a, R: Source>(
     options: &Options<'a>,
     name: &'a str,
     most: Option<u64>,
-    tells_empty: bool,
+    is_plan: bool,
     source: &mut R,
 ) -> Hint<'a> {
     if options.registers {
@@ -169,7 +213,9 @@ fn hints_of_file<'a, R: Source>(
         most,
         words: None,
         xlen: options.xlen,
-        tells_empty,
+        first: options.first,
+        is_plan,
+        tor: options.tor,
         costs: options.costs,
     };
     hints_of_map(alloc, name, bounds, source)
@@ -187,7 +233,9 @@ fn hints_of_plan<'a, R: Source>(
         most: most_entries(limit, options.first, options.at_most, options.format),
         words: Some(room_from(options.first, limit) as u64),
         xlen: options.xlen,
-        tells_empty: true,
+        first: options.first,
+        is_plan: true,
+        tor: options.tor,
         costs: false,
     };
     hints_of_map(alloc, name, bounds, source)

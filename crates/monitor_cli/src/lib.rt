@@ -23,6 +23,7 @@ mod audit;
 mod boards;
 mod certificate_sink;
 mod certified_plan;
+mod chained_plan;
 mod check;
 mod entered;
 mod forms;

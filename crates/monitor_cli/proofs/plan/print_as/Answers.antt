@@ -11,7 +11,7 @@ pub returns-in-Asm : goal.returns-in-Asm
 returns-in-Asm g c = rw c.in-Asm.is c.print_asm.ensures
 
 pub returns-in-Json : goal.returns-in-Json
-returns-in-Json g c = rw c.in-Json.is c.print_json.ensures
+returns-in-Json g c = rw c.in-Json.is c.print_object.ensures
 
 pub print_c-requires : goal.print_c-requires
 print_c-requires g c = let fits = c.requires.fits in record {

@@ -1,6 +1,5 @@
-use Rattle.std.proofs.Common.{◌∙◌, ap, inl, inr, refl}
+use Rattle.std.proofs.Common.{inl, inr, refl}
 use Rattle.std.proofs.lemmas.Result.{err_from_is_err_and}
-use Rattle.entry_planner.specs.Plans.{Planned}
 use Rattle.program_files.specs.Reading as inputs
 use Rattle.program_files.proofs.Refusals.{map_read, no_map_of}
 use Rattle.monitor_cli.proofs.show.show_map.Goals as goal
@@ -19,44 +18,32 @@ returns-in_err-map g c =
       refl,
     ))
 
-pub returns-in_err-packed : goal.returns-in_err-packed
-returns-in_err-packed g c =
-    let p = err_from_is_err_and c.from_residual-in_err-packed.result c.from_residual-in_err-packed.ensures.1 in
-    let made = rw c.as_slice.ensures.value at c.in_ok-map.ensures.made in
-    let has = map_read _ c.in_ok-bytes.bytes.items _ c.in_ok-bytes.ensures.whole made in
-    rw (p.1, p.2) (inr (inr (inr (_, has, c.in_err-packed.ensures.refused)), refl))
-
-pub returns-in_err-plan : goal.returns-in_err-plan
-returns-in_err-plan g c =
-    let p = err_from_is_err_and c.from_residual-in_err-plan.result c.from_residual-in_err-plan.ensures.1 in
-    rw (p.1, p.2) (inr (inl refl, refl))
-
 pub returns-in_err-text : goal.returns-in_err-text
 returns-in_err-text g c =
     let p = err_from_is_err_and c.from_residual-in_err-text.result c.from_residual-in_err-text.ensures.1 in
-    rw (p.1, p.2) (inr (inl refl, refl))
+    let made = rw c.as_slice.ensures.value at c.in_ok-map.ensures.made in
+    let has = map_read _ c.in_ok-bytes.bytes.items _ c.in_ok-bytes.ensures.whole made in
+    rw (p.1, p.2) (inr (inr (inr (_, has, c.in_err-text.ensures.unshown)), refl))
 
 pub returns-in_err-write_whole : goal.returns-in_err-write_whole
 returns-in_err-write_whole g c =
     let p = err_from_is_err_and c.from_residual-in_err-write_whole.result c.from_residual-in_err-write_whole.ensures.1 in
     let made = rw c.as_slice.ensures.value at c.in_ok-map.ensures.made in
-    let text = rw (c.entries.ensures ∙ ap (λ (p : Planned). p.entries) c.in_ok-plan.ensures) at c.in_ok-text.ensures in
     rw (p.1, p.2)
     (inl (
       refl,
       (
         _,
         _,
-        (_, _, _, c.in_ok-bytes.ensures.whole, made, c.in_ok-packed.ensures.planned, c.in_ok-packed.ensures.reached, text, refl),
+        (_, _, c.in_ok-bytes.ensures.whole, made, c.in_ok-text.ensures.shown, refl),
         rw c.as_slice-3.ensures.value at c.in_err-write_whole.ensures,
       ),
     ))
 
 pub returns : goal.returns
 returns g c =
-    let made = rw c.as_slice.ensures.value at c.in_ok-map.ensures.made in
-    let text = rw (c.entries.ensures ∙ ap (λ (p : Planned). p.entries) c.in_ok-plan.ensures) at c.in_ok-text.ensures in (
+    let made = rw c.as_slice.ensures.value at c.in_ok-map.ensures.made in (
       _,
-      (_, _, _, c.in_ok-bytes.ensures.whole, made, c.in_ok-packed.ensures.planned, c.in_ok-packed.ensures.reached, text, refl),
+      (_, _, c.in_ok-bytes.ensures.whole, made, c.in_ok-text.ensures.shown, refl),
       rw c.as_slice-3.ensures.value at c.in_ok-write_whole.ensures,
     )

@@ -1,6 +1,6 @@
 use Rattle.std.proofs.Common.{inl, inr, refl, sym}
 use Rattle.std.proofs.lemmas.Result.{err_from_is_err_and}
-use Rattle.monitor_cli.proofs.plan.do_plan.Goals as goal
+use Rattle.monitor_cli.proofs.plan.plan_blocks.Goals as goal
 
 pub returns-in_err-map : goal.returns-in_err-map
 returns-in_err-map g c =
