@@ -3,7 +3,7 @@
 
   tests/formats/run.py PROGRAM
 
-For each map of examples/ and each limit: C is compiled with strict warnings, and the compiled program prints its arrays; its function
+For each map of examples/ and each limit, without --tor and with it: C is compiled with strict warnings, and the compiled program prints its arrays; its function
 is compiled for RV64 and must write each register once, in order; with a name, only its names differ. Assembly is assembled, and with a
 name is a routine. (The test reports if no assembler for RISC-V is installed.) JSON is read by Python's parser. A list from entry 3 on
 has its registers three further, and the code that loads it leaves three entries unchanged. Then audit loads the words that were read.
@@ -11,6 +11,7 @@ A compiler for RV32 refuses both C and assembly. With --xlen 32 the same registe
 are accepted by a compiler for RV32 and refused by one for RV64; a list with an entry beyond 2^34 is too far. A list that does not fit
 the limit has no registers: C and assembly state how many entries it needs. The last line printed is 'N passed, M failed'.
 """
+import itertools
 import json
 import re
 import shutil
@@ -55,8 +56,10 @@ def compiler_for_riscv():
 class Text:
     """The text output of `plan`: the pairs of the entries, and the configuration words if the list fits."""
 
-    def __init__(self, told, limit):
+    def __init__(self, told, limit, options):
         lines = told.splitlines()
+        # The options of `plan` for this list: --tor or none.
+        self.options = options
         count = int(lines[0].removeprefix("entries "))
         self.pairs = [tuple(int(word, 16) for word in line.split()[1:]) for line in lines[1 : 1 + count]]
         self.words = [int(line.split()[1], 16) for line in lines[1 + count :]]
@@ -141,13 +144,23 @@ def region_of(cfg, address):
     return (address >> ones << ones) * 4, 8 << ones
 
 
-def of_json(text, printed, name):
+def ranges_of(pairs):
+    """Yields the first byte and the size of each entry's range. That of a TOR entry begins at the address of the entry before it, and that
+    of an OFF entry is empty."""
+    bottom = 0
+    for cfg, address in pairs:
+        mode = cfg >> 3 & 3
+        yield {0: (4 * address, 0), 1: (4 * bottom, 4 * (address - bottom))}.get(mode) or region_of(cfg, address)
+        bottom = address
+
+
+def of_json(text, printed, name, without_tor):
     plan = json.loads(printed)
     wanted = []
-    for i, (cfg, address) in enumerate(text.pairs):
-        base, size = region_of(cfg, address)
+    for i, ((cfg, address), (base, size)) in enumerate(zip(text.pairs, ranges_of(text.pairs))):
         wanted.append({"index": i, "cfg": cfg, "addr": f"0x{address:016x}", "base": f"0x{base:016x}", "size": size, "perm": PERMS[cfg & 7]})
-    return plan == {"map": str(name), "limit": text.limit, "fits": len(wanted) <= text.limit, "entries": wanted, "pmpcfg": [f"0x{word:016x}" for word in text.words]}
+    more = {"without_tor": without_tor} if text.options else {}
+    return plan == {"map": str(name), "limit": text.limit, "fits": len(wanted) <= text.limit, **more, "entries": wanted, "pmpcfg": [f"0x{word:016x}" for word in text.words]}
 
 
 def above(text):
@@ -161,7 +174,7 @@ def above(text):
 
 def of_first(program, name, text, folder):
     """Returns whether a list from entry FIRST on is the same list moved by FIRST, and loading it leaves the entries before it unchanged."""
-    plain, printed, assembly, data = (asked(program, name, text.limit, form, "--first", str(FIRST)).stdout for form in ("text", "c", "asm", "json"))
+    plain, printed, assembly, data = (asked(program, name, text.limit, form, *text.options, "--first", str(FIRST)).stdout for form in ("text", "c", "asm", "json"))
     wanted, plan = above(text), json.loads(data)
     listed = [f"entries {len(text.pairs)}", *(f"{FIRST + i} 0x{cfg:02x} 0x{address:016x}" for i, (cfg, address) in enumerate(text.pairs))]
     words = [(register, value) for register, value in wanted.items() if register.startswith("pmpcfg")]
@@ -206,8 +219,8 @@ def is_taken(printed, ending, width, folder):
 
 def of_narrow(program, name, text, folder):
     """Returns whether the registers of RV32 are of the same entries, in words of four, and only RV32 tools accept them."""
-    told = {form: asked(program, name, text.limit, form, "--xlen", "32") for form in ("text", "c", "asm", "json")}
-    if any(base + size > 1 << 34 for base, size in (region_of(cfg, address) for cfg, address in text.pairs)):
+    told = {form: asked(program, name, text.limit, form, *text.options, "--xlen", "32") for form in ("text", "c", "asm", "json")}
+    if any(base + size > 1 << 34 for base, size in ranges_of(text.pairs)):
         return all((it.returncode, it.stdout, it.stderr) == (2, "", f"pmpmon: {name}: too far: 34 bits\n") for it in told.values())
     cfgs = [cfg for cfg, _ in text.pairs] + [0] * (text.limit - len(text.pairs))
     addresses = [address for _, address in text.pairs] + [0] * (text.limit - len(text.pairs))
@@ -243,17 +256,18 @@ def holds(test, *of):
         return False
 
 
-def results(program, name, limit):
-    """Returns each check of a map, and whether it passed."""
-    text = Text(asked(program, name, limit, "text").stdout, limit)
-    forms = {form: asked(program, name, limit, form) for form in ("c", "asm", "json")}
+def results(program, name, limit, options):
+    """Returns each check of a map's list with these options, and whether it passed."""
+    text = Text(asked(program, name, limit, "text", *options).stdout, limit, options)
+    forms = {form: asked(program, name, limit, form, *options) for form in ("c", "asm", "json")}
+    without_tor = len(Text(asked(program, name, limit, "text").stdout, limit, ()).pairs)
     with tempfile.TemporaryDirectory() as made:
         folder = Path(made)
-        yield "json", holds(of_json, text, forms["json"].stdout, name)
+        yield "json", holds(of_json, text, forms["json"].stdout, name, without_tor)
         for form, test in (("c", of_c), ("asm", of_asm)):
             told = forms[form]
             if text.fits:
-                named = asked(program, name, limit, form, "--name", "board").stdout
+                named = asked(program, name, limit, form, *options, "--name", "board").stdout
                 yield form, told.returncode == 0 and holds(test, text, told.stdout, folder)
                 if form == "c":
                     yield "its names", of_names(text, told.stdout, named)
@@ -280,12 +294,12 @@ def main():
     passed = failed = 0
     for path in sorted((TOP / "examples").rglob("*.map")):
         name = path.relative_to(TOP)
-        for limit in (16, 64):
-            held = dict(results(program, name, limit))
+        for limit, options in itertools.product((16, 64), ((), ("--tor",))):
+            held = dict(results(program, name, limit, options))
             wrong = [what for what, held_so in held.items() if not held_so]
             passed += len(held) - len(wrong)
             failed += len(wrong)
-            print(f"{'FAILED' if wrong else 'ok'}: {name}, {limit}: {', '.join(wrong or held)}")
+            print(f"{'FAILED' if wrong else 'ok'}: {' '.join((str(name), *options))}, {limit}: {', '.join(wrong or held)}")
     print(f"{passed} passed, {failed} failed")
     return 1 if failed else 0
 

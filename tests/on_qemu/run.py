@@ -20,6 +20,8 @@ The test requires qemu-system-riscv64, qemu-system-riscv32 and riscv64-unknown-e
 
   apt-get install --no-install-recommends qemu-system-misc gcc-riscv64-unknown-elf
 
+Lists with a chain of TOR entries are tried on both harts (chains.py).
+
 Registers of a hart with Smepmp are tried under each `mseccfg` (smepmp.py), in machine mode too.
 
 If a tool is missing, the test reports it and skips what requires it. The last line printed is 'N passed, M failed'.
@@ -34,6 +36,7 @@ from pathlib import Path
 
 sys.dont_write_bytecode = True
 sys.path.insert(0, str(Path(__file__).resolve().parent))
+import chains  # noqa: E402
 import smepmp  # noqa: E402
 
 TOP = Path(__file__).resolve().parents[2]
@@ -281,6 +284,9 @@ def main():
     for HART in (RV64, RV32):
         well, ill = tested_here(program)
         passed, failed = passed + well, failed + ill
+        if shutil.which(HART.qemu) and shutil.which(GCC):
+            is_right = chains.tested(program, GCC, HART)
+            passed, failed = passed + is_right, failed + (not is_right)
     if shutil.which(RV64.qemu) and shutil.which(GCC):
         well, ill = smepmp.tested(program, GCC, RV64)
         passed, failed = passed + well, failed + ill

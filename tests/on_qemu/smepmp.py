@@ -62,14 +62,14 @@ def header(cfgs, addresses, mseccfg, accesses):
     )
 
 
-def booted(gcc, hart, folder):
-    """Returns the registers as read back, and the outcome of each access."""
+def booted(gcc, hart, folder, source, options):
+    """Returns the registers as read back by a firmware on a board with these options, and the outcome of each access."""
     places = ["-Wl,--section-start=.jump=0x80000000", f"-Wl,-Ttext={CODE:#x}", f"-Wl,-Tdata={DATA:#x}", f"-Wl,-Tbss={DATA + HALF // 2:#x}"]
     image = folder / "firmware.elf"
     (folder / "registers.s").write_text("")
     link = ["-Wl,--build-id=none", "-Wl,--no-warn-rwx-segments", f"-Wa,-I{folder}", f"-I{folder}"]
-    subprocess.run([gcc, *hart.flags, *places, *link, "-o", image, HERE / "start.S", HERE / "smepmp.c"], check=True)
-    board = [hart.qemu, "-machine", "virt", "-cpu", "rv64,x-epmp=on", "-m", "1024", "-display", "none", "-monitor", "none", "-serial", "stdio"]
+    subprocess.run([gcc, *hart.flags, *places, *link, "-o", image, HERE / "start.S", HERE / source], check=True)
+    board = [hart.qemu, "-machine", "virt", *options, "-m", "1024", "-display", "none", "-monitor", "none", "-serial", "stdio"]
     told = subprocess.run([*board, "-bios", image], stdin=subprocess.DEVNULL, capture_output=True, text=True, timeout=120)
     lines = told.stdout.splitlines()
     return [line for line in lines if line.startswith(("pmp", "mseccfg"))], [line.split(" ", 1)[1] for line in lines if line[:1].isdigit()]
@@ -104,7 +104,7 @@ def tried(program, gcc, hart, seed, mseccfg, folder):
     cfgs, addresses = made_registers(chance, mseccfg)
     accesses = list(made_accesses(chance))
     (folder / "smepmp.h").write_text(header(cfgs, addresses, mseccfg, accesses))
-    registers, got = booted(gcc, hart, folder)
+    registers, got = booted(gcc, hart, folder, "smepmp.c", ["-cpu", "rv64,x-epmp=on"])
     values = {name: int(value, 16) for name, value in (line.split() for line in registers)}
     wanted = [values.get(f"pmpaddr{i}") for i in range(16)], values.get("mseccfg", -1) & 3
     if wanted != (addresses, mseccfg & 3) or len(got) != len(accesses):
