@@ -73,7 +73,8 @@ pub fn stretches(
 
 /// Returns the addresses that each entry of a list matches. The only error is a failed allocation.
 pub fn extents_of(alloc: Global, entries: &[Entry]) -> Result<Vec<Extent>, Memory>
-    ensures { IfOk result (λ all. all.items ≡ matched_by entries.now) }
+    ensures matched { IfOk result (λ all. all.items ≡ matched_by entries.now) }
+    ensures words { IfOk result (λ all. All IsWords all.items) }
 {
     let mut all = Vec::new(alloc);
     for entry in entries {

@@ -1,9 +1,6 @@
 use Rattle.std.proofs.Common.{◌∙◌, ap, inl, refl}
-use Rattle.std.proofs.lemmas.List.Elements.{All-from_recursion}
 use Rattle.std.proofs.lemmas.Result.{err_from_is_err_and}
 use Rattle.pmp_match.specs.Lists.{matched_by}
-use Rattle.pmp_match.specs.RegisterDecision.{IsWords}
-use Rattle.pmp_match.proofs.Instance.{entries_words}
 use Rattle.entry_planner.specs.Plans.{Planned}
 use Rattle.monitor_cli.proofs.show.block_table.Goals as goal
 
@@ -29,8 +26,7 @@ returns-in_err-text-clause-unshown c =
 
 pub shown_as-requires : goal.shown_as-requires
 shown_as-requires c = record {
-  words = rw (c.as_slice.ensures.value ∙ c.in_ok-extents.ensures)
-      (All-from_recursion IsWords (matched_by _) (entries_words _));
+  words = rw c.as_slice.ensures.value c.in_ok-extents.ensures.words;
   short = c.requires;
 }
 
@@ -40,5 +36,5 @@ returns-clause-shown c =
       c.in_ok-packed.plan.entries,
       c.in_ok-packed.ensures.planned,
       c.in_ok-packed.ensures.reached,
-      rw (c.as_slice.ensures.value ∙ c.in_ok-extents.ensures ∙ ap matched_by entries) at c.in_ok-text.ensures,
+      rw (c.as_slice.ensures.value ∙ c.in_ok-extents.ensures.matched ∙ ap matched_by entries) at c.in_ok-text.ensures,
     )
