@@ -305,9 +305,10 @@ def main():
         note(right and (got[0], got[2]) == (printed, status), f"{name}: {words}", got)
 
 
-with tempfile.TemporaryDirectory() as folder:
-    os.chdir(folder)
-    main()
-    os.chdir("/")
-print(f"{passed} passed, {failed} failed")
-sys.exit(failed != 0)
+if __name__ == "__main__":
+    with tempfile.TemporaryDirectory() as folder:
+        os.chdir(folder)
+        main()
+        os.chdir("/")
+    print(f"{passed} passed, {failed} failed")
+    sys.exit(failed != 0)

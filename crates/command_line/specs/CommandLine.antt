@@ -114,15 +114,16 @@ rules_by subcommands.Judge = file_rule (codes "MAP") true ∷ file_rule (codes "
     ∷ entries_rule ∷ registers_rule ∷ flag_rule (codes "expect") ∷ flag_rule (codes "explain")
     ∷ xlen_rule ∷ hints_rule ∷ []
 rules_by subcommands.Check = file_rule (codes "MAP") true ∷ file_rule (codes "CERT") true
-    ∷ hints_rule ∷ []
+    ∷ format_rule ∷ hints_rule ∷ []
 rules_by subcommands.Show = file_rule (codes "MAP") true ∷ entries_rule ∷ at_most_rule
     ∷ registers_rule ∷ xlen_rule ∷ mode_rule ∷ format_rule ∷ flag_rule (codes "costs")
     ∷ hints_rule ∷ []
 rules_by subcommands.Audit = file_rule (codes "MAP") true ∷ file_rule (codes "REGISTERS") true
-    ∷ flag_rule (codes "all") ∷ xlen_rule ∷ mode_rule ∷ hints_rule ∷ []
+    ∷ flag_rule (codes "all") ∷ xlen_rule ∷ mode_rule ∷ format_rule ∷ hints_rule ∷ []
 rules_by subcommands.Map = file_rule (codes "FILE") true ∷ xlen_rule ∷ mode_rule ∷ hints_rule ∷ []
 rules_by subcommands.Lint = file_rule (codes "FILE") true ∷ registers_rule
-    ∷ flag_rule (codes "trace") ∷ option_rule (codes "platform") [] ∷ xlen_rule ∷ hints_rule ∷ []
+    ∷ flag_rule (codes "trace") ∷ option_rule (codes "platform") [] ∷ xlen_rule ∷ format_rule
+    ∷ hints_rule ∷ []
 rules_by subcommands.Measure = file_rule (codes "FILE") true ∷ needed_rule (codes "text")
     ∷ option_rule (codes "data") (codes "0" ∷ []) ∷ option_rule (codes "shared") (codes "0" ∷ [])
     ∷ option_rule (codes "entry") (codes "0" ∷ []) ∷ hints_rule ∷ []

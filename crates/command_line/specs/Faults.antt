@@ -9,6 +9,7 @@ use Rattle.pmp_match.specs.declared.access.Mode.TheVariants.{Machine}
 use Rattle.command_line.specs.declared.fault.Fault.{Fault}
 use Rattle.command_line.specs.declared.fault.Fault.TheVariants as faults
 use Rattle.command_line.specs.declared.options.Format.{Format}
+use Rattle.command_line.specs.declared.options.ReportFormat.{ReportFormat}
 use Rattle.command_line.specs.declared.options.TableFormat.{TableFormat}
 use Rattle.command_line.specs.declared.hints.Hints.{Hints}
 use Rattle.command_line.specs.declared.task.Subcommand.{Subcommand}
@@ -21,7 +22,8 @@ use Rattle.command_line.specs.Monitors.{AreWholePages, base_name, size_name}
 use Rattle.text_lines.specs.Numbers.{number_of}
 use Rattle.command_line.specs.Subcommands.{Text, subcommand_word}
 use Rattle.command_line.specs.Tasks.{BeginsAt, Counts, IsGiven, format_word, table_format_word}
-use Rattle.command_line.specs.Tasks.{input_word, is_identifier, limit_word, mode_word, width_word}
+use Rattle.command_line.specs.Tasks.{input_word, is_identifier, limit_word, mode_word}
+use Rattle.command_line.specs.Tasks.{report_format_word, width_word}
 
 -- a demand of a subcommand on the values of its arguments
 pub data Demand : Type 0 where
@@ -29,6 +31,7 @@ pub data Demand : Type 0 where
   names_limit : Demand
   names_format : Demand
   names_table_format : Demand
+  names_report_format : Demand
   names_width : Demand
   names_mode : Demand
   counts : Demand
@@ -50,8 +53,8 @@ pub data Demand : Type 0 where
   has_whole_pages : Demand
 
 -- the values do not meet the demand: the argument with this name has no value; the word of
--- `--entries` is not a limit, that of `--format` not a format of a plan or of a table, that of
--- `--xlen` not a width, that of `--mode` not a mode, that of `--at-most` not a number, that of
+-- `--entries` is not a limit, that of `--format` not a format of a plan, a table or a report, that
+-- of `--xlen` not a width, that of `--mode` not a mode, that of `--at-most` not a number, that of
 -- `--name` not an identifier, that of `--first` not an entry below the limit, that of `--hints` not
 -- valid; the map and the other file are both standard input; the certificate is the map; the file
 -- is a listing and a trace at once; answers are to be explained and compared at once; a platform is
@@ -66,6 +69,8 @@ Lacks value flag names_format = (format : Format)
     → value (codes "format") ≢ Some (format_word format)
 Lacks value flag names_table_format = (format : TableFormat)
     → value (codes "format") ≢ Some (table_format_word format)
+Lacks value flag names_report_format = (format : ReportFormat)
+    → value (codes "format") ≢ Some (report_format_word format)
 Lacks value flag names_width = (xlen : Xlen) → value (codes "xlen") ≢ Some (width_word xlen)
 Lacks value flag names_mode = (mode : Mode) → value (codes "mode") ≢ Some (mode_word mode)
 Lacks value flag counts = (count : Option ℕ) → ¬ Counts (value (codes "at-most")) count
@@ -104,6 +109,7 @@ Tells value (has name) fault = fault ≡ faults.Missing
 Tells value names_limit (faults.Entries word) = value (codes "entries") ≡ Some word.now
 Tells value names_format (faults.Format word) = value (codes "format") ≡ Some word.now
 Tells value names_table_format (faults.TableFormat word) = value (codes "format") ≡ Some word.now
+Tells value names_report_format (faults.ReportFormat word) = value (codes "format") ≡ Some word.now
 Tells value names_width (faults.Xlen word) = value (codes "xlen") ≡ Some word.now
 Tells value names_mode (faults.Mode word) = value (codes "mode") ≡ Some word.now
 Tells value counts (faults.AtMost word) = value (codes "at-most") ≡ Some word.now
@@ -146,6 +152,10 @@ of_layout = has (codes "text") ∷ numbers (codes "text") ∷ has (codes "data")
 abbrev pub of_monitor : List Demand
 of_monitor = spells base_name ∷ spells size_name ∷ has_whole_pages ∷ []
 
+-- the demands on the format of a report
+abbrev pub of_report : List Demand
+of_report = has (codes "format") ∷ names_report_format ∷ []
+
 -- the demands of each subcommand, in the order of their checks
 abbrev pub demands_of : Subcommand → List Demand
 demands_of subcommands.Run = has (codes "PLATFORM") ∷ has (codes "TRACE") ∷ one_answer ∷ []
@@ -155,17 +165,17 @@ demands_of subcommands.Plan =
     ∷ begins_inside ∷ []
 demands_of subcommands.Judge = has (codes "MAP") ∷ has (codes "TRACE") ∷ has (codes "entries")
     ∷ names_limit ∷ reads_once (codes "TRACE") ∷ has (codes "xlen") ∷ names_width ∷ one_answer ∷ []
-demands_of subcommands.Check = has (codes "MAP") ∷ has (codes "CERT") ∷ []
+demands_of subcommands.Check = has (codes "MAP") ∷ has (codes "CERT") ∷ of_report
 demands_of subcommands.Show = has (codes "MAP") ∷ has (codes "entries") ∷ names_limit ∷ counts
     ∷ has (codes "xlen") ∷ names_width ∷ has (codes "mode") ∷ names_mode ∷ has (codes "format")
     ∷ names_table_format ∷ of_map ∷ of_text ∷ of_registers ∷ []
 demands_of subcommands.Audit = has (codes "MAP") ∷ has (codes "REGISTERS")
     ∷ reads_once (codes "REGISTERS") ∷ has (codes "xlen") ∷ names_width ∷ has (codes "mode")
-    ∷ names_mode ∷ []
+    ∷ names_mode ∷ of_report
 demands_of subcommands.Map = has (codes "FILE") ∷ has (codes "xlen") ∷ names_width
     ∷ has (codes "mode") ∷ names_mode ∷ []
 demands_of subcommands.Lint = has (codes "FILE") ∷ one_kind ∷ of_trace ∷ has (codes "xlen")
-    ∷ names_width ∷ []
+    ∷ names_width ∷ of_report
 demands_of subcommands.Measure = has (codes "FILE") ∷ of_layout
 demands_of subcommands.Platform = has (codes "BOARD") ∷ of_monitor
 

@@ -7,11 +7,13 @@ use Rattle.command_line.specs.declared.options.Answers.TheVariants.{Plain}
 use Rattle.command_line.specs.declared.options.Format.TheVariants as formats
 use Rattle.command_line.specs.declared.options.LintKind.TheVariants.{ByName}
 use Rattle.command_line.specs.declared.options.Options.{Options}
+use Rattle.command_line.specs.declared.options.ReportFormat.TheVariants as reports
 use Rattle.command_line.specs.declared.options.TableFormat.TheVariants as tables
 
--- the default options: a plan or a table as text, from entry 0 on, of any size and without a name;
--- registers of 64 bits and user mode, and no listing of registers instead of a map; plain answers;
--- only the first stretch that differs; a file by its name; no costs; and hints on a terminal
+-- the default options: a plan, a table or a report as text, from entry 0 on, of any size and
+-- without a name; registers of 64 bits and user mode, and no listing of registers instead of a map;
+-- plain answers; only the first stretch that differs; a file by its name; no costs; and hints on a
+-- terminal
 abbrev pub default_options : Options
 default_options = record {
   format = formats.Text;
@@ -25,6 +27,7 @@ default_options = record {
   all = false;
   kind = ByName;
   table = tables.Text;
+  report = reports.Text;
   costs = false;
   hints = Auto;
 }

@@ -12,6 +12,8 @@ use Rattle.pmp_match.specs.declared.access.Mode.TheVariants.{Machine, Supervisor
 use Rattle.text_lines.specs.Numbers.{number_of}
 use Rattle.command_line.specs.declared.options.Format.{Format}
 use Rattle.command_line.specs.declared.options.Format.TheVariants as formats
+use Rattle.command_line.specs.declared.options.ReportFormat.{ReportFormat}
+use Rattle.command_line.specs.declared.options.ReportFormat.TheVariants as reports
 use Rattle.command_line.specs.declared.options.TableFormat.{TableFormat}
 use Rattle.command_line.specs.declared.options.TableFormat.TheVariants as tables
 use Rattle.command_line.specs.declared.options.Answers.{Answers}
@@ -46,6 +48,11 @@ abbrev pub table_format_word : TableFormat → Text
 table_format_word tables.Text = codes "text"
 table_format_word tables.Svg = codes "svg"
 table_format_word tables.Json = codes "json"
+
+-- the word that names a format of a report
+abbrev pub report_format_word : ReportFormat → Text
+report_format_word reports.Text = codes "text"
+report_format_word reports.Json = codes "json"
 
 -- the word that names a width of registers
 abbrev pub width_word : Xlen → Text
@@ -137,6 +144,7 @@ HasValues value flag (Judge map trace limit) options =
 HasValues value flag (Check map cert) options =
     (value (codes "MAP") ≡ Some map.now)
     × (value (codes "CERT") ≡ Some cert.now)
+    × (value (codes "format") ≡ Some (report_format_word options.report))
 HasValues value flag (Show map limit) options =
     (value (codes "MAP") ≡ Some map.now)
     × (value (codes "entries") ≡ Some (limit_word limit))
@@ -152,6 +160,7 @@ HasValues value flag (Audit map registers) options =
     × IsFlag (flag (codes "all")) options.all
     × (value (codes "xlen") ≡ Some (width_word options.xlen))
     × (value (codes "mode") ≡ Some (mode_word options.mode))
+    × (value (codes "format") ≡ Some (report_format_word options.report))
 HasValues value flag (Map file) options =
     (value (codes "FILE") ≡ Some file.now)
     × (value (codes "xlen") ≡ Some (width_word options.xlen))
@@ -161,6 +170,7 @@ HasValues value flag (Lint file platform) options =
     × HasKind value flag options.kind
     × (value (codes "xlen") ≡ Some (width_word options.xlen))
     × (value (codes "platform") ≡ option_map (λ s. s.now) platform)
+    × (value (codes "format") ≡ Some (report_format_word options.report))
 HasValues value flag (Measure file layout) options =
     (value (codes "FILE") ≡ Some file.now)
     × IsLaidOut value layout

@@ -16,6 +16,8 @@ pub enum Fault<'a> {
     Format(&'a str),
     /// The value of `--format` for a table is invalid.
     TableFormat(&'a str),
+    /// The value of `--format` for a report is invalid.
+    ReportFormat(&'a str),
     /// The value of `--at-most` is invalid.
     AtMost(&'a str),
     /// The value of `--name` is invalid.
@@ -73,6 +75,7 @@ impl<'a> Fault<'a> {
             Fault::Entries(word) => Some(("entries <16|64>", word, "16, 64")),
             Fault::Format(word) => Some(("format <text|c|asm|json>", word, "text, c, asm, json")),
             Fault::TableFormat(word) => Some(("format <text|svg|json>", word, "text, svg, json")),
+            Fault::ReportFormat(word) => Some(("format <text|json>", word, "text, json")),
             Fault::Xlen(word) => Some(("xlen <32|64>", word, "32, 64")),
             Fault::Mode(word) => Some(("mode <m|s|u>", word, "m, s, u")),
             Fault::Hints(word) => Some(("hints <auto|always|never>", word, "auto, always, never")),
@@ -89,6 +92,7 @@ impl<'a> Fault<'a> {
             Fault::Entries(_)
             | Fault::Format(_)
             | Fault::TableFormat(_)
+            | Fault::ReportFormat(_)
             | Fault::Xlen(_)
             | Fault::Mode(_)
             | Fault::Hints(_) => ErrorKind::InvalidValue,

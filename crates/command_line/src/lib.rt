@@ -31,7 +31,7 @@ mod words;
 
 pub use fault::Fault;
 pub use hints::Hints;
-pub use options::{Answers, Format, LintKind, Options, TableFormat};
+pub use options::{Answers, Format, LintKind, Options, ReportFormat, TableFormat};
 pub use places::{InputName, cert_of, first_of, reads_twice, second_of};
 pub use request::Request;
 pub use task::{NO_FILE, Subcommand, Task, TaskOutline, name_or_none, outline_of};

@@ -31,6 +31,15 @@ pub enum TableFormat {
     Json,
 }
 
+/// The format of a report.
+#[derive(Clone, Copy, PartialEq, Eq)]
+pub enum ReportFormat {
+    /// Lines for people.
+    Text,
+    /// One JSON object.
+    Json,
+}
+
 /// The kind of answers to a trace.
 #[derive(Clone, Copy, PartialEq, Eq)]
 pub enum Answers {
@@ -78,6 +87,8 @@ pub struct Options<'a> {
     pub kind: LintKind,
     /// The format of a table.
     pub table: TableFormat,
+    /// The format of the report of `audit`, `check` and `lint`.
+    pub report: ReportFormat,
     /// True if the text of a map's table is followed by the number of entries that the map needs without each of its
     /// lines.
     pub costs: bool,
@@ -102,6 +113,7 @@ impl Default for Options<'_> {
             all: false,
             kind: LintKind::ByName,
             table: TableFormat::Text,
+            report: ReportFormat::Text,
             costs: false,
             hints: Hints::Auto,
         }

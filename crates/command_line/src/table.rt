@@ -68,6 +68,14 @@ const TABLE_FORMAT: Argument<'static> = Argument::Value {
     help: "Output format of a map's table",
 };
 
+/// The format of a report.
+const REPORT_FORMAT: Argument<'static> = Argument::Value {
+    name: "format",
+    value: "text|json",
+    default: Some("text"),
+    help: "Output format",
+};
+
 /// The prefix of names in C and assembly.
 const NAME: Argument<'static> = Argument::Value {
     name: "name",
@@ -246,10 +254,11 @@ const JUDGE_ROW: Row<'static> = Row {
 
 const CHECK_ROW: Row<'static> = Row {
     about: "Check that a certificate proves its entries correct and fewest (NA4 and NAPOT) for a map",
-    more: "Prints 'accepted N' ('accepted N of 64' for a plan with --entries 64), or 'refused CODE NAME' with status 1.\nThe checker trusts neither the planner nor the author of the certificate.\n\nExample:\n  pmpmon check map.txt map.pmpc",
+    more: "Prints 'accepted N' ('accepted N of 64' for a plan with --entries 64), or 'refused CODE NAME' with status 1;\nwith --format json one JSON object. The checker trusts neither the planner nor the author of the certificate.\n\nExample:\n  pmpmon check map.txt map.pmpc",
     arguments: &[
         Argument::File("MAP", "The map file"),
         Argument::File("CERT", "The certificate"),
+        REPORT_FORMAT,
         HINTS,
     ],
 };
@@ -275,13 +284,14 @@ const SHOW_ROW: Row<'static> = Row {
 
 const AUDIT_ROW: Row<'static> = Row {
     about: "Decide whether registers mean a map, or print the first difference",
-    more: "REGISTERS is the output of 'plan', or lines 'pmpaddrN VALUE' and 'pmpcfgK VALUE' in any order. A later line overrides an\nearlier one, and a register without a line is zero.\n\nPrints 'means the map: 5 entries; fewest NA4/NAPOT entries: 3'; the registers may have fewer, by TOR.\nOtherwise prints, with status 1, the first stretch that differs (with --all every one), both permissions and the deciding\nentry, or the first reserved register pair. Lines of other registers are ignored, and a comment says so. mseccfg (Smepmp)\nis taken into account; with an unknown bit there is no verdict, and the status is 1.\n\nWith --mode m the map is compared with the permissions of machine mode. Supervisor and user mode have the same\npermissions.\n\nWith --xlen 32 the registers are those of RV32: pmpcfgK has four entries from 4K on, numbers have 32 bits, and a map\nwith a byte at or beyond 2^34 is refused.\n\nExample:\n  pmpmon audit map.txt registers.txt",
+    more: "REGISTERS is the output of 'plan', or lines 'pmpaddrN VALUE' and 'pmpcfgK VALUE' in any order. A later line overrides an\nearlier one, and a register without a line is zero.\n\nPrints 'means the map: 5 entries; fewest NA4/NAPOT entries: 3'; the registers may have fewer, by TOR.\nOtherwise prints, with status 1, the first stretch that differs (with --all every one), both permissions and the deciding\nentry, or the first reserved register pair. Lines of other registers are ignored, and a comment says so. mseccfg (Smepmp)\nis taken into account; with an unknown bit there is no verdict, and the status is 1.\n\nWith --mode m the map is compared with the permissions of machine mode. Supervisor and user mode have the same\npermissions.\n\nWith --xlen 32 the registers are those of RV32: pmpcfgK has four entries from 4K on, numbers have 32 bits, and a map\nwith a byte at or beyond 2^34 is refused.\n\nWith --format json the output is one JSON object, with the counts and each reported stretch.\n\nExamples:\n  pmpmon audit map.txt registers.txt\n  pmpmon audit map.txt registers.txt --all --format json",
     arguments: &[
         Argument::File("MAP", "The map file"),
         Argument::File("REGISTERS", "The listing of the registers"),
         ALL,
         XLEN,
         MODE,
+        REPORT_FORMAT,
         HINTS,
     ],
 };
@@ -302,7 +312,7 @@ const MAP_ROW: Row<'static> = Row {
 
 const LINT_ROW: Row<'static> = Row {
     about: "Report the errors of a file with line, column and a fix",
-    more: "Prints 'FILE:LINE:COLUMN:', the error and a fix for each invalid line. For a valid map it warns of redundant lines, or\nprints a note if a line denies pages that are denied anyway. A file whose name ends in '.toml' is read as a platform:\nits first error is printed, or a warning for each DMA-capable device of a known board that it opens.\n\nWith --registers, FILE is a listing of registers as for audit; with --xlen 32 one of RV32.\nWith --trace it is a trace, for the harts of the platform or for four.\n\nThe status is 0 if the file is valid, with or without warnings, and 1 otherwise.\n\nExamples:\n  pmpmon lint map.txt\n  pmpmon lint --trace trace.txt --platform platform.toml",
+    more: "Prints 'FILE:LINE:COLUMN:', the error and a fix for each invalid line. For a valid map it warns of redundant lines, or\nprints a note if a line denies pages that are denied anyway. A file whose name ends in '.toml' is read as a platform:\nits first error is printed, or a warning for each DMA-capable device of a known board that it opens.\n\nWith --registers, FILE is a listing of registers as for audit; with --xlen 32 one of RV32.\nWith --trace it is a trace, for the harts of the platform or for four.\n\nWith --format json the output is one JSON object, with the line, the column, the rule and the text of each finding.\n\nThe status is 0 if the file is valid, with or without warnings, and 1 otherwise.\n\nExamples:\n  pmpmon lint map.txt\n  pmpmon lint --trace trace.txt --platform platform.toml",
     arguments: &[
         Argument::File(
             "FILE",
@@ -312,6 +322,7 @@ const LINT_ROW: Row<'static> = Row {
         TRACE,
         PLATFORM,
         XLEN,
+        REPORT_FORMAT,
         HINTS,
     ],
 };

@@ -15,8 +15,8 @@ use crate::options::{Answers, LintKind, Options, TableFormat};
 use crate::request::Request;
 use crate::task::{Subcommand, Task};
 use crate::values::{
-    at_most_in, first_in, format_in, limit_in, mode_in, name_in, table_format_in, value_in,
-    width_in,
+    at_most_in, first_in, format_in, limit_in, mode_in, name_in, report_format_in, table_format_in,
+    value_in, width_in,
 };
 use clap::ArgMatches;
 use pmp_match::Mode;
@@ -158,11 +158,10 @@ fn check_in<'a>(given: &ArgMatches<'a>, base: Options<'a>) -> Result<Request<'a>
 {
     let map = value_in(given, "MAP")?;
     let cert = value_in(given, "CERT")?;
+    let report = report_format_in(given)?;
     let task = Task::Check { map, cert };
-    Ok(Request {
-        task,
-        options: base,
-    })
+    let options = Options { report, ..base };
+    Ok(Request { task, options })
 }
 
 /// Rejects a table of registers in another format than text.
@@ -243,12 +242,14 @@ fn audit_in<'a>(given: &ArgMatches<'a>, base: Options<'a>) -> Result<Request<'a>
     once(map, registers)?;
     let xlen = width_in(given)?;
     let mode = mode_in(given)?;
+    let report = report_format_in(given)?;
     let all = is_given(given, "all");
     let task = Task::Audit { map, registers };
     let options = Options {
         all,
         xlen,
         mode,
+        report,
         ..base
     };
     Ok(Request { task, options })
@@ -301,9 +302,15 @@ fn lint_in<'a>(given: &ArgMatches<'a>, base: Options<'a>) -> Result<Request<'a>,
     let file = value_in(given, "FILE")?;
     let kind = kind_in(given)?;
     let xlen = width_in(given)?;
+    let report = report_format_in(given)?;
     let platform = word_in(given, "platform");
     let task = Task::Lint { file, platform };
-    let options = Options { kind, xlen, ..base };
+    let options = Options {
+        kind,
+        xlen,
+        report,
+        ..base
+    };
     Ok(Request { task, options })
 }
 

@@ -8,15 +8,16 @@ ghost use Rattle.pmp_encoding.specs.declared.xlen.Xlen.{Xlen};
 ghost use Rattle.pmp_match.specs.declared.access.Mode.{Mode};
 ghost use Rattle.text_lines.specs.Numbers.{number_of};
 ghost use Rattle.command_line.specs.declared.options.Format.{Format};
+ghost use Rattle.command_line.specs.declared.options.ReportFormat.{ReportFormat};
 ghost use Rattle.command_line.specs.declared.options.TableFormat.{TableFormat};
 ghost use Rattle.command_line.specs.Faults.{Breaks, IsFirst};
-ghost use Rattle.command_line.specs.Faults.Demand.{begins_inside, counts, has, identifies, names_limit, names_format, names_mode, names_table_format, names_width};
-ghost use Rattle.command_line.specs.Tasks.{limit_word, format_word, mode_word, table_format_word, width_word, is_identifier, is_letter, is_letter_or_digit, BeginsAt, Counts};
+ghost use Rattle.command_line.specs.Faults.Demand.{begins_inside, counts, has, identifies, names_limit, names_format, names_mode, names_report_format, names_table_format, names_width};
+ghost use Rattle.command_line.specs.Tasks.{limit_word, format_word, mode_word, report_format_word, table_format_word, width_word, is_identifier, is_letter, is_letter_or_digit, BeginsAt, Counts};
 ghost use Rattle.command_line.specs.Given.{flags_of, values_of};
 
 use crate::fault::Fault;
 use crate::found::word_in;
-use crate::options::{Format, TableFormat};
+use crate::options::{Format, ReportFormat, TableFormat};
 use clap::ArgMatches;
 use pmp_encoding::{Limit, Xlen};
 use pmp_match::Mode;
@@ -70,6 +71,21 @@ fn table_format_of(word: &str) -> Option<TableFormat>
     }
     if word == "json" {
         return Some(TableFormat::Json);
+    }
+    None
+}
+
+/// Returns the format of a report that a word names.
+fn report_format_of(word: &str) -> Option<ReportFormat>
+    ensures some { IfSome result (λ format. word.now ≡ report_format_word format) }
+    ensures none { result ≡ None → (format : ReportFormat)
+        → word.now ≢ report_format_word format }
+{
+    if word == "text" {
+        return Some(ReportFormat::Text);
+    }
+    if word == "json" {
+        return Some(ReportFormat::Json);
     }
     None
 }
@@ -156,6 +172,20 @@ pub(crate) fn table_format_in<'a>(given: &ArgMatches<'a>) -> Result<TableFormat,
     match table_format_of(word) {
         Some(format) => Ok(format),
         None => Err(Fault::TableFormat(word)),
+    }
+}
+
+/// Returns the value of `--format` for a report.
+pub(crate) fn report_format_in<'a>(given: &ArgMatches<'a>) -> Result<ReportFormat, Fault<'a>>
+    ensures value { IfOk result (λ format.
+        values_of given.now (codes "format") ≡ Some (report_format_word format)) }
+    ensures fault { IfErr result (IsFirst (values_of given.now) (flags_of given.now)
+        (has (codes "format") ∷ names_report_format ∷ [])) }
+{
+    let word = value_in(given, "format")?;
+    match report_format_of(word) {
+        Some(format) => Ok(format),
+        None => Err(Fault::ReportFormat(word)),
     }
 }
 

@@ -2,6 +2,7 @@ pub mod Breaches
 pub mod Costs
 pub mod Document
 pub mod Faults
+pub mod Findings
 pub mod KeyPlaces
 pub mod Maps
 pub mod Masters

@@ -5,14 +5,14 @@ ghost use Rattle.text_lines.specs.Lines.{raw_lines};
 ghost use Rattle.input_files.specs.Maps.{unknown_from};
 ghost use Rattle.input_files.specs.Settings.{IsRemark, settings_from};
 
+use crate::findings::{Level, LintFinding, find, place_after, text_of};
 use crate::idle_lines::{IdleLine, MapRemark, remark_on};
 use crate::map_settings::settings_in;
 use crate::map_words::push_reason;
-use crate::said_words::push_place;
 use map_text::raw_says;
 use permission_map::Memory;
 use std::alloc::Global;
-use text_lines::{push, split_line};
+use text_lines::split_line;
 
 /// An invalid line of a map file.
 #[derive(Clone, Copy)]
@@ -71,51 +71,63 @@ pub fn map_findings<'a>(
     Ok(MapFindings { unknown, remark })
 }
 
-/// Appends the finding on a line that can be removed without changing the map.
-fn push_idle(text: &mut Vec<u8>, name: &str, idle: &IdleLine) -> Result<(), Memory> {
-    push_place(text, name, idle.line)?;
+/// Adds the finding on a line that can be removed without changing the map.
+fn find_idle(
+    alloc: Global,
+    findings: &mut Vec<LintFinding>,
+    idle: &IdleLine,
+) -> Result<(), Memory> {
+    let place = place_after(idle.line, 0);
     if idle.redundant {
-        return push(
-            text,
-            "1: note: the line says what holds anyway; its pages have no permission without it\n",
-        );
+        let text = text_of(
+            alloc,
+            "the line says what holds anyway; its pages have no permission without it",
+        )?;
+        return find(findings, Level::Note, "redundant-line", place, text);
     }
-    push(
-        text,
-        "1: warning: the line changes nothing of the whole map; it can go\n",
-    )
+    let text = text_of(
+        alloc,
+        "the line changes nothing of the whole map; it can go",
+    )?;
+    find(findings, Level::Warning, "idle-line", place, text)
 }
 
-/// Appends the remark on all lines together.
-fn push_remark(text: &mut Vec<u8>, name: &str, remark: &MapRemark) -> Result<(), Memory> {
+/// Adds the remark on all lines together.
+fn find_remark(
+    alloc: Global,
+    findings: &mut Vec<LintFinding>,
+    remark: &MapRemark,
+) -> Result<(), Memory> {
     match remark {
         MapRemark::Nothing => Ok(()),
         MapRemark::TooManyAfter(line) => {
-            push_place(text, name, *line)?;
-            push(
-                text,
-                "1: more than 4096 ranges after this line; a map has at most 4096\n",
-            )
+            let text = text_of(
+                alloc,
+                "more than 4096 ranges after this line; a map has at most 4096",
+            )?;
+            let place = place_after(*line, 0);
+            find(findings, Level::Error, "too-many-ranges", place, text)
         }
         MapRemark::Idle(idle) => {
             for line in idle.as_slice() {
-                push_idle(text, name, line)?;
+                find_idle(alloc, findings, line)?;
             }
             Ok(())
         }
     }
 }
 
-/// Appends a line for each finding, with its place, the fault and the correction.
-pub fn push_map_findings(
-    text: &mut Vec<u8>,
-    name: &str,
-    findings: &MapFindings<'_>,
+/// Adds a finding for each invalid line, with its place, the fault and the correction, and the remark on all lines.
+pub(crate) fn find_in_map(
+    alloc: Global,
+    findings: &mut Vec<LintFinding>,
+    found: &MapFindings<'_>,
 ) -> Result<(), Memory> {
-    for unknown in findings.unknown.as_slice() {
-        push_place(text, name, unknown.line)?;
-        push_reason(text, unknown.raw)?;
-        push(text, "\n")?;
+    for unknown in found.unknown.as_slice() {
+        let mut text = Vec::new(alloc);
+        let before = push_reason(&mut text, unknown.raw)?;
+        let place = place_after(unknown.line, before);
+        find(findings, Level::Error, "map-line", place, text)?;
     }
-    push_remark(text, name, &findings.remark)
+    find_remark(alloc, findings, &found.remark)
 }

@@ -4,27 +4,22 @@ ghost use Rattle.std.specs.Prelude.{◌^◌, ◌<◌, ◌≤◌};
 
 use crate::meant_numbers::meant_range;
 use crate::said_words;
-use crate::said_words::{begins_comment, push_column, push_quoted};
+use crate::said_words::{begins_comment, push_quoted};
 use permission_map::Memory;
 use pmp_encoding::SPACE_SIZE;
-use text_lines::{Placed, numeral, push, push_address};
+use text_lines::{numeral, push, push_address};
 
-/// Appends the column of a word, and its name.
-fn push_named(text: &mut Vec<u8>, name: &str, before: usize) -> Result<(), Memory> {
-    push_column(text, before)?;
+/// Appends the name of a word.
+fn push_named(text: &mut Vec<u8>, name: &str) -> Result<(), Memory> {
     push(text, name)?;
     push(text, " ")
 }
 
 /// Appends the fault of a word that is not a number.
-pub(crate) fn push_no_number(
-    text: &mut Vec<u8>,
-    name: &str,
-    placed: Placed<'_>,
-) -> Result<(), Memory> {
-    push_named(text, name, placed.before)?;
-    push_quoted(text, placed.word)?;
-    said_words::push_no_number(text, placed.word)
+pub(crate) fn push_no_number(text: &mut Vec<u8>, name: &str, word: &[u8]) -> Result<(), Memory> {
+    push_named(text, name)?;
+    push_quoted(text, word)?;
+    said_words::push_no_number(text, word)
 }
 
 /// Returns whether a text contains a hyphen.
@@ -74,10 +69,10 @@ fn push_base_fault(text: &mut Vec<u8>, word: &[u8]) -> Result<(), Memory> {
 }
 
 /// Appends the fault of a first word that is not a number.
-pub(crate) fn push_no_base(text: &mut Vec<u8>, placed: Placed<'_>) -> Result<(), Memory> {
-    push_named(text, "BASE", placed.before)?;
-    push_quoted(text, placed.word)?;
-    push_base_fault(text, placed.word)
+pub(crate) fn push_no_base(text: &mut Vec<u8>, word: &[u8]) -> Result<(), Memory> {
+    push_named(text, "BASE")?;
+    push_quoted(text, word)?;
+    push_base_fault(text, word)
 }
 
 /// Returns whether digits, read as hexadecimal, are a whole number of pages of at most `most` bytes.
@@ -89,18 +84,18 @@ fn is_whole_hex(digits: &[u8], most: u64) -> bool {
 }
 
 /// Appends that `0x` is missing before the digits of a number.
-fn push_hex(text: &mut Vec<u8>, name: &str, placed: Placed<'_>) -> Result<(), Memory> {
-    push_named(text, name, placed.before)?;
-    text.extend_from_slice(placed.word)?;
+fn push_hex(text: &mut Vec<u8>, name: &str, word: &[u8]) -> Result<(), Memory> {
+    push_named(text, name)?;
+    text.extend_from_slice(word)?;
     push(text, " is not a multiple of 4096 in decimal; write 0x")?;
-    text.extend_from_slice(placed.word)?;
+    text.extend_from_slice(word)?;
     Ok(())
 }
 
 /// Appends that a word's number of bytes does not form whole pages.
-fn push_part(text: &mut Vec<u8>, name: &str, placed: Placed<'_>) -> Result<(), Memory> {
-    push_named(text, name, placed.before)?;
-    text.extend_from_slice(placed.word)?;
+fn push_part(text: &mut Vec<u8>, name: &str, word: &[u8]) -> Result<(), Memory> {
+    push_named(text, name)?;
+    text.extend_from_slice(word)?;
     push(text, " is not a multiple of 4096; ")?;
     Ok(())
 }
@@ -144,13 +139,13 @@ fn push_base_mend(text: &mut Vec<u8>, first: u64, bytes: u64) -> Result<(), Memo
 /// Appends the fault of a base that is not a multiple of a page.
 pub(crate) fn push_base_part(
     text: &mut Vec<u8>,
-    base: Placed<'_>,
+    base: &[u8],
     first: u64,
     bytes: u64,
 ) -> Result<(), Memory>
     requires first { first ≤ 2 ^ 56 }
 {
-    if is_whole_hex(base.word, SPACE_SIZE - 4096) {
+    if is_whole_hex(base, SPACE_SIZE - 4096) {
         return push_hex(text, "BASE", base);
     }
     push_part(text, "BASE", base)?;
@@ -177,14 +172,14 @@ fn push_size_mend(text: &mut Vec<u8>, bytes: u64) -> Result<(), Memory>
 /// Appends the fault of a size that is not a multiple of a page, given its base.
 pub(crate) fn push_size_part(
     text: &mut Vec<u8>,
-    size: Placed<'_>,
+    size: &[u8],
     first: u64,
     bytes: u64,
 ) -> Result<(), Memory>
     requires first { first ≤ 2 ^ 56 }
     requires bytes { bytes ≤ 2 ^ 56 }
 {
-    if is_whole_hex(size.word, SPACE_SIZE - first) {
+    if is_whole_hex(size, SPACE_SIZE - first) {
         return push_hex(text, "SIZE", size);
     }
     push_part(text, "SIZE", size)?;

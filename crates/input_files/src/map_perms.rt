@@ -2,7 +2,7 @@
 
 ghost use Rattle.std.specs.Prelude.{◌^◌, ◌<◌};
 
-use crate::said_words::{push_column, push_quoted};
+use crate::said_words::push_quoted;
 use permission_map::Memory;
 use text_lines::push;
 
@@ -73,8 +73,7 @@ fn fault_of(word: &[u8]) -> &'static str {
 }
 
 /// Appends the fault of a word that is not a permission.
-pub(crate) fn push_perm(text: &mut Vec<u8>, before: usize, word: &[u8]) -> Result<(), Memory> {
-    push_column(text, before)?;
+pub(crate) fn push_perm(text: &mut Vec<u8>, word: &[u8]) -> Result<(), Memory> {
     push(text, "PERM ")?;
     push_quoted(text, word)?;
     push(text, fault_of(word))

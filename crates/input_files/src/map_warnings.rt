@@ -2,11 +2,11 @@
 
 ghost use Rattle.std.specs.Prelude.{◌-◌, ◌^◌, ◌<◌, length};
 
+use crate::findings::{Level, LintFinding, find, place_after};
 use crate::held_masters::holds;
 use crate::idle_lines::{Numbered, map_of_both};
 use crate::map_settings::settings_in;
 use crate::masters::{Master, masters};
-use crate::said_words::push_place;
 use crate::warnings::push_master;
 use permission_map::{Memory, PermissionMap, Run};
 use pmp_encoding::PAGE_SIZE;
@@ -38,22 +38,19 @@ fn opens(map: &PermissionMap, setting: &Run, master: Master) -> bool {
     holds((base, size, setting.perm), master) && is_still_open(map, setting, master)
 }
 
-/// Appends a warning for each master that a line opens.
-fn push_masters(
-    text: &mut Vec<u8>,
-    name: &str,
+/// Adds a warning for each master that a line opens.
+fn find_masters(
+    alloc: Global,
+    findings: &mut Vec<LintFinding>,
     map: &PermissionMap,
     numbered: &Numbered,
 ) -> Result<(), Memory> {
     for master in masters() {
         if opens(map, &numbered.setting, *master) {
-            push_place(text, name, numbered.line)?;
-            push(text, "1: warning: ")?;
-            push_master(text, *master)?;
-            push(
-                text,
-                ", which reads and writes any memory by itself; leave these pages out\n",
-            )?;
+            let mut text = Vec::new(alloc);
+            push_master(&mut text, *master)?;
+            let place = place_after(numbered.line, 0);
+            find(findings, Level::Warning, "dma-device", place, text)?;
         }
     }
     Ok(())
@@ -83,26 +80,30 @@ fn last_crossed<'a>(before: &'a [Numbered], setting: &Run) -> Option<&'a Numbere
     found
 }
 
-/// Appends a note for each setting that crosses an earlier one.
-fn push_crossings(text: &mut Vec<u8>, name: &str, settings: &[Numbered]) -> Result<(), Memory> {
+/// Adds a note for each setting that crosses an earlier one.
+fn find_crossings(
+    alloc: Global,
+    findings: &mut Vec<LintFinding>,
+    settings: &[Numbered],
+) -> Result<(), Memory> {
     for (i, numbered) in settings.iter().enumerate() {
         if let Some(other) = last_crossed(&settings[..i], &numbered.setting) {
-            push_place(text, name, numbered.line)?;
-            push(text, "1: note: the line overrides a part of line ")?;
-            push_number(text, other.line)?;
-            push(text, ", which is ")?;
-            push(text, other.setting.perm.word())?;
-            push(text, "\n")?;
+            let mut text = Vec::new(alloc);
+            push(&mut text, "the line overrides a part of line ")?;
+            push_number(&mut text, other.line)?;
+            push(&mut text, ", which is ")?;
+            push(&mut text, other.setting.perm.word())?;
+            let place = place_after(numbered.line, 0);
+            find(findings, Level::Note, "overridden-line", place, text)?;
         }
     }
     Ok(())
 }
 
-/// Appends the warnings about a map.
-pub(crate) fn push_map_warnings(
+/// Adds the warnings about a map.
+pub(crate) fn find_map_warnings(
     alloc: Global,
-    text: &mut Vec<u8>,
-    name: &str,
+    findings: &mut Vec<LintFinding>,
     bytes: &[u8],
 ) -> Result<(), Memory>
     requires { length bytes.now < 2 ^ 64 - 1 }
@@ -112,7 +113,11 @@ pub(crate) fn push_map_warnings(
         return Ok(());
     };
     for numbered in settings.as_slice() {
-        push_masters(text, name, &map, numbered)?;
+        find_masters(alloc, findings, &map, numbered)?;
     }
-    push_crossings(text, name, &settings.as_slice()[..settings.len().min(MOST)])
+    find_crossings(
+        alloc,
+        findings,
+        &settings.as_slice()[..settings.len().min(MOST)],
+    )
 }

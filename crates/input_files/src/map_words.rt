@@ -4,7 +4,7 @@ ghost use Rattle.std.specs.Prelude.{◌^◌, ◌≤◌};
 
 use crate::map_numbers::{push_base_part, push_no_base, push_no_number, push_size_part};
 use crate::map_perms::push_perm;
-use crate::said_words::{byte_fault, push_column};
+use crate::said_words::byte_fault;
 use permission_map::Memory;
 use pmp_encoding::SPACE_SIZE;
 use text_lines::{
@@ -21,25 +21,7 @@ fn push_most(text: &mut Vec<u8>, first: u64) -> Result<(), Memory>
     Ok(())
 }
 
-/// Appends that a range ends after the space.
-fn push_past_end(text: &mut Vec<u8>, size_at: usize, first: u64) -> Result<(), Memory>
-    requires first { first ≤ 2 ^ 56 }
-{
-    push_column(text, size_at)?;
-    push_most(text, first)?;
-    Ok(())
-}
-
-/// Appends that a base is outside the space.
-fn push_past(text: &mut Vec<u8>, base_at: usize) -> Result<(), Memory> {
-    push_column(text, base_at)?;
-    push(
-        text,
-        "BASE is past 2^56; the space ends at 0x100000000000000",
-    )
-}
-
-/// Appends the fault of a range whose base and size are numbers, given the word at fault.
+/// Appends the fault of a range whose base and size are numbers. Returns the number of bytes before the word at fault.
 fn push_range(
     text: &mut Vec<u8>,
     base: Placed<'_>,
@@ -47,84 +29,92 @@ fn push_range(
     perm: Placed<'_>,
     first: u64,
     bytes: u64,
-) -> Result<(), Memory> {
+) -> Result<usize, Memory> {
     if first > SPACE_SIZE {
-        return push_past(text, base.before);
+        push(
+            text,
+            "BASE is past 2^56; the space ends at 0x100000000000000",
+        )?;
+        return Ok(base.before);
     }
     if first % 4096 != 0 {
-        return push_base_part(text, base, first, bytes);
+        push_base_part(text, base.word, first, bytes)?;
+        return Ok(base.before);
     }
     if bytes > SPACE_SIZE - first {
-        return push_past_end(text, size.before, first);
+        push_most(text, first)?;
+        return Ok(size.before);
     }
     if bytes % 4096 != 0 {
-        return push_size_part(text, size, first, bytes);
+        push_size_part(text, size.word, first, bytes)?;
+        return Ok(size.before);
     }
-    push_perm(text, perm.before, perm.word)
+    push_perm(text, perm.word)?;
+    Ok(perm.before)
 }
 
-/// Appends the fault of three words, of which the first is this number.
+/// Appends the fault of three words, of which the first is this number. Returns the number of bytes before the word at
+/// fault.
 fn push_three(
     text: &mut Vec<u8>,
     base: Placed<'_>,
     size: Placed<'_>,
     perm: Placed<'_>,
     first: u64,
-) -> Result<(), Memory> {
+) -> Result<usize, Memory> {
     let Some(bytes) = number(size.word) else {
-        return push_no_number(text, "SIZE", size);
+        push_no_number(text, "SIZE", size.word)?;
+        return Ok(size.before);
     };
     push_range(text, base, size, perm, first, bytes)
 }
 
-/// Appends the fault of the words of a line without its comment.
-fn push_words(text: &mut Vec<u8>, line: &[u8]) -> Result<(), Memory> {
+/// Appends the fault of the words of a line without its comment. Returns the number of bytes before the fault.
+fn push_words(text: &mut Vec<u8>, line: &[u8]) -> Result<usize, Memory> {
     let base = word_from(line, 0);
     let Some(first) = number(base.word) else {
-        return push_no_base(text, base);
+        push_no_base(text, base.word)?;
+        return Ok(base.before);
     };
     let size = word_from(line, base.end);
     if size.word.is_empty() {
-        push_column(text, base.end)?;
-        return push(text, "SIZE and PERM are wanting; a line is BASE SIZE PERM");
+        push(text, "SIZE and PERM are wanting; a line is BASE SIZE PERM")?;
+        return Ok(base.end);
     }
     let perm = word_from(line, size.end);
     if perm.word.is_empty() {
-        push_column(text, size.end)?;
-        return push(text, "PERM is wanting; write none, r, rw, x, rx or rwx");
+        push(text, "PERM is wanting; write none, r, rw, x, rx or rwx")?;
+        return Ok(size.end);
     }
     let more = word_from(line, perm.end);
     if !more.word.is_empty() {
-        push_column(text, more.before)?;
-        return push(text, "a fourth word; a comment begins with #");
+        push(text, "a fourth word; a comment begins with #")?;
+        return Ok(more.before);
     }
     push_three(text, base, size, perm, first)
 }
 
-/// Appends the fault of a line without its LF and CR.
-fn push_line(text: &mut Vec<u8>, line: &[u8]) -> Result<(), Memory> {
+/// Appends the fault of a line without its LF and CR. Returns the number of bytes before it.
+fn push_line(text: &mut Vec<u8>, line: &[u8]) -> Result<usize, Memory> {
     let content = content_of(line);
     if are_allowed(content) {
         return push_words(text, content);
     }
     let at = allowed_len(line);
-    push_column(text, at)?;
-    push(text, byte_fault(&line[at..]))
+    push(text, byte_fault(&line[at..]))?;
+    Ok(at)
 }
 
-/// Appends the fault of a line of at most 1023 bytes.
-fn push_short(text: &mut Vec<u8>, raw: &[u8]) -> Result<(), Memory> {
+/// Appends the reason why a line is invalid, with a correction. Returns the number of bytes of the line before the
+/// fault.
+pub(crate) fn push_reason(text: &mut Vec<u8>, raw: &[u8]) -> Result<usize, Memory> {
+    if raw.len() > LONGEST {
+        push(text, "the line is too long; it has at most 1023 bytes")?;
+        return Ok(LONGEST);
+    }
     if has_mark(raw) {
-        return push(text, "1: a byte order mark; save the file without one");
+        push(text, "a byte order mark; save the file without one")?;
+        return Ok(0);
     }
     push_line(text, without_return(raw))
-}
-
-/// Appends the column and the reason why a line is invalid, with a correction.
-pub(crate) fn push_reason(text: &mut Vec<u8>, raw: &[u8]) -> Result<(), Memory> {
-    if raw.len() > LONGEST {
-        push_column(text, LONGEST)?;
-        return push(text, "the line is too long; it has at most 1023 bytes");
-    }
-    push_short(text, raw)
 }

@@ -3,9 +3,6 @@
 ghost use Rattle.std.specs.Prelude.{◌≡◌, ◌≤◌, IfSome, length};
 ghost use Rattle.input_files.specs.Positions.{position_after};
 
-use std::alloc::AllocError;
-use text_lines::{push, push_number};
-
 /// Returns the line and the column after some bytes, both counted from 1. A column counts bytes.
 fn position_after(before: &[u8]) -> (u64, u64)
     ensures { result ≡ position_after before.now 1 1 }
@@ -23,28 +20,19 @@ fn position_after(before: &[u8]) -> (u64, u64)
     (line, column)
 }
 
-/// Appends the line and the column after `at` bytes of a text, such as `:3:1: `.
-pub(crate) fn push_position(line: &mut Vec<u8>, text: &str, at: usize) -> Result<(), AllocError>
+/// Returns the line and the column after `at` bytes of a text, both counted from 1.
+pub(crate) fn position_at(text: &str, at: usize) -> (u64, u64)
     requires { at ≤ length text.now }
 {
-    let (row, column) = position_after(&text.as_bytes()[..at]);
-    push(line, ":")?;
-    push_number(line, row)?;
-    push(line, ":")?;
-    push_number(line, column)?;
-    push(line, ": ")
+    position_after(&text.as_bytes()[..at])
 }
 
-/// Appends the line and the column after some bytes of a text, or `: ` if the position is unknown.
-pub(crate) fn push_found(
-    line: &mut Vec<u8>,
-    text: &str,
-    found: Option<usize>,
-) -> Result<(), AllocError>
+/// Returns the line and the column after some bytes of a text, if the number of these bytes is known.
+pub(crate) fn position_of(text: &str, found: Option<usize>) -> Option<(u64, u64)>
     requires { IfSome found (λ at. at ≤ length text.now) }
 {
     match found {
-        Some(at) => push_position(line, text, at),
-        None => push(line, ": "),
+        Some(at) => Some(position_at(text, at)),
+        None => None,
     }
 }

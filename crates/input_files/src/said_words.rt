@@ -4,7 +4,7 @@ ghost use Rattle.std.specs.Prelude.{◌≤◌, length};
 
 use crate::meant_numbers::meant_number;
 use std::alloc::AllocError;
-use text_lines::{push, push_address, push_number};
+use text_lines::{push, push_address};
 
 /// Maximum number of bytes of a word to quote.
 const QUOTED: usize = 32;
@@ -26,20 +26,6 @@ pub(crate) fn push_quoted(text: &mut Vec<u8>, word: &[u8]) -> Result<(), AllocEr
     push(text, "'")?;
     text.extend_from_slice(word)?;
     push(text, "'")
-}
-
-/// Appends `FILE:LINE:`.
-pub(crate) fn push_place(text: &mut Vec<u8>, name: &str, line: u64) -> Result<(), AllocError> {
-    push(text, name)?;
-    push(text, ":")?;
-    push_number(text, line)?;
-    push(text, ":")
-}
-
-/// Appends `COLUMN: `, counted from 1.
-pub(crate) fn push_column(text: &mut Vec<u8>, before: usize) -> Result<(), AllocError> {
-    push_number(text, (before as u64).saturating_add(1))?;
-    push(text, ": ")
 }
 
 /// Returns the fault of a text whose first byte may not occur outside a comment.

@@ -2,7 +2,7 @@
 
 ghost use Rattle.std.specs.Prelude.{◌≤◌, length};
 
-use crate::said_words::{push_column, push_place};
+use crate::findings::{Level, LintFinding, find, place_after};
 use std::alloc::{AllocError, Global};
 use text_lines::{
     Placed, begins_with, content_of, is_text, push, split_line, without_return, word_from,
@@ -62,37 +62,35 @@ fn doubtful_address(line: &[u8]) -> Option<Placed<'_>> {
     None
 }
 
-/// Appends the warning about a line, if it has a doubtful address.
-fn push_warning(text: &mut Vec<u8>, name: &str, line: u64, raw: &[u8]) -> Result<(), AllocError> {
-    let Some(address) = doubtful_address(content_of(without_return(raw))) else {
-        return Ok(());
-    };
-    push_place(text, name, line)?;
-    push_column(text, address.before)?;
-    push(text, "warning: ")?;
-    text.extend_from_slice(address.word)?;
+/// Returns the warning about an address.
+fn warning_of(alloc: Global, address: &[u8]) -> Result<Vec<u8>, AllocError> {
+    let mut text = Vec::new(alloc);
+    text.extend_from_slice(address)?;
     push(
-        text,
+        &mut text,
         " is decimal; if it is an address in hexadecimal, write 0x",
     )?;
-    text.extend_from_slice(address.word)?;
-    push(text, "\n")
+    text.extend_from_slice(address)?;
+    Ok(text)
 }
 
-/// Returns a line for each line of a trace with a doubtful address.
-pub(crate) fn trace_warnings(
+/// Adds a warning for each line of a trace with a doubtful address.
+pub(crate) fn find_doubtful(
     alloc: Global,
-    name: &str,
+    findings: &mut Vec<LintFinding>,
     bytes: &[u8],
-) -> Result<Vec<u8>, AllocError> {
-    let mut text = Vec::new(alloc);
+) -> Result<(), AllocError> {
     let mut rest = bytes;
     let mut line: u64 = 0;
     while !rest.is_empty() {
         let (raw, behind) = split_line(rest);
         line = line.saturating_add(1);
-        push_warning(&mut text, name, line, raw)?;
+        if let Some(address) = doubtful_address(content_of(without_return(raw))) {
+            let text = warning_of(alloc, address.word)?;
+            let place = place_after(line, address.before);
+            find(findings, Level::Warning, "decimal-address", place, text)?;
+        }
         rest = behind;
     }
-    Ok(text)
+    Ok(())
 }

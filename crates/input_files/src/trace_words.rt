@@ -2,10 +2,8 @@
 
 use crate::keywords::{keyword, near_kind};
 use crate::registers::meant_register;
-use crate::said_words::{
-    begins_comment, byte_fault, push_column, push_no_number, push_place, push_quoted,
-};
-use hart_trace::{EventKind, LineFault, Reason, Slot};
+use crate::said_words::{begins_comment, byte_fault, push_no_number, push_quoted};
+use hart_trace::{EventKind, Reason, Slot};
 use pmp_match::Kind;
 use std::alloc::AllocError;
 use text_lines::{is_text, number, push, push_number};
@@ -156,7 +154,7 @@ fn push_missing(text: &mut Vec<u8>, kind: EventKind, slot: Slot) -> Result<(), A
 }
 
 /// Appends the message for a line, on `harts` harts.
-fn push_reason(
+pub(crate) fn push_reason(
     text: &mut Vec<u8>,
     harts: u8,
     word: &[u8],
@@ -193,18 +191,4 @@ fn push_reason(
             push(text, " is an event of run; judge takes accesses alone")
         }
     }
-}
-
-/// Appends the whole message for an invalid line, on `harts` harts.
-pub(crate) fn push_line_fault(
-    text: &mut Vec<u8>,
-    name: &str,
-    harts: u8,
-    line: u64,
-    fault: LineFault<'_>,
-) -> Result<(), AllocError> {
-    push_place(text, name, line)?;
-    push_column(text, fault.before)?;
-    push_reason(text, harts, fault.word, fault.reason)?;
-    push(text, "\n")
 }

@@ -8,4 +8,5 @@ pub mod MapEnds
 pub mod Names
 pub mod PlanCertificates
 pub mod PlatformRefusals
+pub mod Reported
 pub mod RunEnds

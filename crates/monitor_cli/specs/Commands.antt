@@ -1,7 +1,7 @@
 -- The ends of commands that print a result about their inputs: each has a relation for its inputs
 -- and its decision, and one for its failures.
 use Rattle.std.specs.Prelude.{◌≡◌, ◌≢◌, ◌⊎◌, ℕ, ◌^◌, Bool, true, false, List, None, Option}
-use Rattle.std.specs.Prelude.{Some, Result, Ok, Err}
+use Rattle.std.specs.Prelude.{Some, Result, Ok, Err, length}
 use Rattle.std.specs.Borrow.{Bor}
 use Rattle.text_lines.specs.Writings.{Breaks, IsUnwritten, TakesAll, Writing}
 use Rattle.pmp_encoding.specs.declared.limit.Limit.{Limit}
@@ -15,7 +15,6 @@ use Rattle.permission_map.specs.declared.runs.Run.{Run}
 use Rattle.permission_map.specs.Runs.{view_of_runs}
 use Rattle.map_text.specs.MapFile.{Makes}
 use Rattle.map_table.specs.FormattedTables.{IsJsonTable}
-use Rattle.register_audit.specs.Audits.{IsAudit}
 use Rattle.register_audit.specs.Maps.{AreTooFine, IsMapFile}
 use Rattle.register_audit.specs.Tables.{IsRegisterTable}
 use Rattle.register_audit.specs.declared.listing.Listing.{Listing}
@@ -25,6 +24,7 @@ use Rattle.board_texts.specs.declared.fault.BoardTextFault.{BoardTextFault}
 use Rattle.board_texts.specs.Boards.{IsMapOfTree, IsNoMap, is_tree}
 use Rattle.board_texts.specs.Platforms.{IsNoPlatform, IsPlatformOfTree}
 use Rattle.command_line.specs.declared.options.Options.{Options}
+use Rattle.command_line.specs.declared.options.ReportFormat.{ReportFormat}
 use Rattle.command_line.specs.declared.options.TableFormat.{TableFormat}
 use Rattle.command_line.specs.declared.options.TableFormat.TheVariants as tables
 use Rattle.program_files.specs.declared.trouble.Trouble.{Trouble}
@@ -35,7 +35,7 @@ use Rattle.program_files.specs.Reading.{Reading, IsUnread, HasBytes, HasNoBytes,
 use Rattle.monitor_cli.specs.Answered.{answer_status}
 use Rattle.monitor_cli.specs.CertifiedPlan.{IsPlanned, IsUnplanned}
 use Rattle.monitor_cli.specs.Plan.{HasNoPlan}
-use Rattle.monitor_cli.specs.Verdicts.{IsVerdict}
+use Rattle.monitor_cli.specs.Reports.{IsAuditOf, IsVerdictAs}
 
 -- the end of a command: it prints a text of this kind and returns its decision; or the device
 -- fails, after a beginning of such a text; or the command fails, because of an allocation or for a
@@ -53,11 +53,13 @@ HasUnknown file xlen source trouble = (listing : List ℕ) × (n : ℕ)
     × HasBytes (2 ^ 20) source listing
     × IsFirstUnknown xlen listing n × (trouble ≡ NotUnderstood file n)
 
--- `check` reads the map, then the certificate, and prints the line and returns the status of the
+-- `check` reads the map, then the certificate, and prints the report and returns the status of the
 -- verdict
-abbrev pub IsChecked : {R : Type 0} → Reading R → Reading R → List ℕ → ℕ → Type 0
-IsChecked first second text status = (runs : List Run) × (bytes : List ℕ) × HasMap first runs
-    × HasBytes (2 ^ 26) second bytes × IsVerdict (view_of_runs runs) bytes text status
+abbrev pub IsChecked : {R : Type 0} → ReportFormat → Bor (List ℕ) → Bor (List ℕ) → Reading R
+    → Reading R → List ℕ → ℕ → Type 0
+IsChecked report map cert first second text status = (runs : List Run) × (bytes : List ℕ)
+    × HasMap first runs × HasBytes (2 ^ 26) second bytes
+    × IsVerdictAs report map.now cert.now (view_of_runs runs) bytes text status
 
 -- the reason why there is no verdict
 abbrev pub IsUnchecked : {R : Type 0} → Bor (List ℕ) → Bor (List ℕ) → Reading R → Reading R
@@ -67,11 +69,13 @@ IsUnchecked map cert first second trouble = (HasNoMap map first trouble × IsUnr
 
 -- `audit` reads the map, then the listing of registers, and returns whether they mean the map for a
 -- mode. The text contains the minimum number of entries, which the hart's address registers reach
-abbrev pub IsAudited : {R : Type 0} → Options → Reading R → Reading R → List ℕ → Bool → Type 0
-IsAudited options first second text means = (runs : List Run) × (listing : List ℕ)
+abbrev pub IsAudited : {R : Type 0} → Bor (List ℕ) → Bor (List ℕ) → Options → Reading R
+    → Reading R → List ℕ → Bool → Type 0
+IsAudited map registers options first second text means = (runs : List Run) × (listing : List ℕ)
     × (entries : List Entry) × HasMap first runs × HasBytes (2 ^ 20) second listing
     × IsFewest (view_of_runs runs) entries × AreReached options.xlen entries
-    × IsAudit options.mode (view_of_runs runs) options.xlen listing means
+    × IsAuditOf (record { map = map; registers = registers }) options (view_of_runs runs)
+    (length entries) listing text means
 
 -- the reason why there is no audit
 abbrev pub IsUnaudited : {R : Type 0} → Bor (List ℕ) → Bor (List ℕ) → Options → Reading R

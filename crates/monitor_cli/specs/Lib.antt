@@ -13,6 +13,7 @@ pub mod OnFiles
 pub mod Plan
 pub mod Platforms
 pub mod Programs
+pub mod Reports
 pub mod Runs
 pub mod Stops
 pub mod TaskInputs

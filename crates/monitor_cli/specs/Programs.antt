@@ -34,9 +34,10 @@ Comes (tasks.Plan map file limit) options first second cert out done =
 Comes (tasks.Judge file trace limit) options first second cert out done =
     JudgesBy options.registers file trace limit options first second out done × WritesNothing cert
 Comes (tasks.Check map file) options first second cert out done =
-    Ends (IsChecked first second) (IsUnchecked map file first second) out done × WritesNothing cert
+    Ends (IsChecked options.report map file first second) (IsUnchecked map file first second) out
+    done × WritesNothing cert
 Comes (tasks.Audit map registers) options first second cert out done =
-    Judging (Ends (IsAudited options first second)
+    Judging (Ends (IsAudited map registers options first second)
     (IsUnaudited map registers options first second) out) done × WritesNothing cert
 Comes (tasks.Map file) options first second cert out done =
     Ends (IsMapped options first) (IsUnmapped file options first) out done × IsUnread second

@@ -9,7 +9,7 @@ use crate::lint::{
 };
 use crate::platform_inputs::PLATFORM_BYTES;
 use file_hints::{FileKind, front_of};
-use input_files::Taker;
+use input_files::{LintForm, Taker};
 use pmp_encoding::Xlen;
 use program_files::{
     CERTIFICATE_BYTES, MAP_BYTES, REGISTER_BYTES, Trouble, bytes_in, has_more, shown,
@@ -168,13 +168,15 @@ pub(crate) fn hints_for(alloc: Global, form: Form, name: &str, bytes: &[u8]) -> 
     }
     let mut held = Counted::new(Vec::new(alloc));
     let is_right = match form {
-        Form::Map => lint_map(alloc, name, bytes, &mut held)?,
-        Form::Platform => lint_as_platform(alloc, name, bytes, &mut held)?,
+        Form::Map => lint_map(alloc, LintForm::Lines, name, bytes, &mut held)?,
+        Form::Platform => lint_as_platform(alloc, LintForm::Lines, name, bytes, &mut held)?,
         Form::Listing(xlen) | Form::ListingOrTree(xlen) => {
-            lint_listing(alloc, xlen, name, bytes, &mut held)?
+            lint_listing(alloc, LintForm::Lines, xlen, name, bytes, &mut held)?
         }
-        Form::Trace(taker) => lint_as_trace(alloc, name, bytes, taker, &mut held)?,
-        Form::Tree => print_kind(name, FileKind::Tree, bytes, &mut held)?,
+        Form::Trace(taker) => {
+            lint_as_trace(alloc, LintForm::Lines, name, bytes, taker, &mut held)?
+        }
+        Form::Tree => print_kind(alloc, LintForm::Lines, name, FileKind::Tree, bytes, &mut held)?,
         Form::Certificate => true,
     };
     if is_right {

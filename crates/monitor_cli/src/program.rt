@@ -75,7 +75,9 @@ pub(crate) fn run_task<'a, R: Source, M, C: CertificateSink<M>, L, W: LineSink<L
         Task::Judge { map, trace, limit } => {
             do_judge::<R, L, W>(alloc, map, trace, limit, options, first, second, out)
         }
-        Task::Check { map, cert } => quiet(do_check(alloc, map, cert, first, second, out)),
+        Task::Check { map, cert } => {
+            quiet(do_check(alloc, map, cert, options.report, first, second, out))
+        },
         Task::Audit { map, registers } => {
             yes_or_no(do_audit(alloc, map, registers, options, first, second, out))
         }

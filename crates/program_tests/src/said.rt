@@ -1,6 +1,6 @@
 //! Functions that read a text and write a report on it, however few bytes each write accepts: a row for each.
 
-use input_files::{Taker, lint_map, lint_platform, lint_trace};
+use input_files::{LintForm, Taker, lint_map, lint_platform, lint_trace};
 use pmp_encoding::Xlen;
 use pmp_match::Mode;
 use register_audit::{print_map_of, print_registers};
@@ -26,9 +26,9 @@ enum Reader {
 /// Returns the result for the text, if there is one, and writes the report to the sink.
 fn answer_of(alloc: Global, reader: Reader, bytes: &[u8], out: &mut PieceSink) -> Option<bool> {
     match reader {
-        Reader::MapLint => lint_map(alloc, "m", bytes, out).ok(),
-        Reader::PlatformLint => lint_platform(alloc, "p", bytes, out).ok(),
-        Reader::TraceLint(taker) => lint_trace(alloc, "t", bytes, taker, out).ok(),
+        Reader::MapLint => lint_map(alloc, LintForm::Lines, "m", bytes, out).ok(),
+        Reader::PlatformLint => lint_platform(alloc, LintForm::Lines, "p", bytes, out).ok(),
+        Reader::TraceLint(taker) => lint_trace(alloc, LintForm::Lines, "t", bytes, taker, out).ok(),
         Reader::Table => print_registers(alloc, Mode::User, Xlen::Rv64, bytes, out).ok(),
         Reader::Map => print_map_of(alloc, Mode::User, Xlen::Rv64, bytes, out)
             .ok()

@@ -1,4 +1,5 @@
 pub mod Answered
+pub mod JsonAnswered
 pub mod Each
 pub mod Cut
 pub mod Agreed

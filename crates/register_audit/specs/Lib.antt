@@ -4,6 +4,8 @@ pub mod Verdicts
 pub mod Fewest
 pub mod Differences
 pub mod Audits
+pub mod JsonAudits
+pub mod JsonItems
 pub mod Tables
 pub mod Decision
 pub mod Modes

@@ -7,6 +7,7 @@
 //! - [`audit`] writes whether the registers mean a map, or the first stretch that differs, or the first access that an
 //!   entry cuts, or the first entry with a reserved value. [`verdict_of`] returns this as a value, and [`compare`] does
 //!   the same for a list of extents. [`fewest_with_chain`] counts the entries that are enough with TOR.
+//!   [`audit_as_json`] returns the audit as one JSON object.
 //! - [`print_registers`] writes the table of the registers' permissions, and [`print_map_of`] the map that they mean,
 //!   if a map of whole pages exists.
 //! - [`Rules::judge`] judges an access of any mode by any registers: the first entry that matches a byte of the access
@@ -35,6 +36,8 @@ mod extents;
 mod fault;
 mod fewest;
 mod finding;
+mod json_audit;
+mod json_items;
 mod laws;
 mod letters;
 mod lines;
@@ -64,6 +67,7 @@ pub use entry::RegionEntry;
 pub use fault::{ListingFault, MapOfFault};
 pub use fewest::fewest_with_chain;
 pub use finding::{Finding, compare};
+pub use json_audit::{AuditFiles, JsonAudit, audit_as_json};
 pub use laws::{list_law, mean_law, permits_law};
 pub use lines::{is_boot_log, log_says};
 pub use listing::{Listing, is_listing, listing_of};

@@ -30,14 +30,15 @@ struct Answer {
     means: bool,
 }
 
-fn is_meant(verdict: &Verdict) -> bool
+/// Returns whether a verdict is positive.
+pub(crate) fn is_meant(verdict: &Verdict) -> bool
     ensures { result ≡ is_meant verdict.now }
 {
     matches!(verdict, Verdict::Means { .. })
 }
 
 /// Returns whether all differing stretches were requested and the verdict is such a stretch.
-fn is_each(all: bool, verdict: &Verdict) -> bool
+pub(crate) fn is_each(all: bool, verdict: &Verdict) -> bool
     ensures { result ≡ (all && is_difference verdict.now) }
 {
     all && matches!(verdict, Verdict::Differs(_))

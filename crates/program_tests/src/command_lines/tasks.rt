@@ -1,7 +1,7 @@
 //! Words, and the tasks that they form.
 
 use command_line::{
-    Answers, Format, Hints, LintKind, Options, TableFormat, Task, request_of_words,
+    Answers, Format, Hints, LintKind, Options, ReportFormat, TableFormat, Task, request_of_words,
 };
 use pmp_encoding::{Limit, Xlen};
 use pmp_match::Mode;
@@ -24,6 +24,7 @@ pub const PLAIN: Options<'static> = Options {
     all: false,
     kind: LintKind::ByName,
     table: TableFormat::Text,
+    report: ReportFormat::Text,
     costs: false,
     hints: Hints::Auto,
 };

@@ -22,4 +22,7 @@ returns-in_err-mode-clause-fault c =
     let value = values_of c.args.given.now in
     let flag = flags_of c.args.given.now in
     handed_on c.from_residual-in_err-mode.result c.in_err-mode.field-0.0 (IsFirst value flag (demands_of subcommands.Map)) c.from_residual-in_err-mode.ensures.1
-    (inr (given value _ _ c.in_ok-file.ensures.value, moded_wrongly value flag _ _ c.in_ok-xlen.ensures.value c.in_err-mode.ensures.fault))
+    (inr (
+      given value _ _ c.in_ok-file.ensures.value,
+      moded_wrongly value flag _ (has (codes "mode") ∷ names_mode ∷ []) _ c.in_ok-xlen.ensures.value c.in_err-mode.ensures.fault,
+    ))

@@ -1,6 +1,7 @@
-use Rattle.std.proofs.Common.{Err, ◌∙◌, ap, inl, inr, refl, sym}
+use Rattle.std.proofs.Common.{inl, inr, refl, sym}
 use Rattle.std.proofs.lemmas.Result.{err_from_is_err_and}
-use Rattle.monitor_cli.proofs.ListingTroubles.{by_fault}
+use Rattle.monitor_cli.specs.Reports.{IsAuditOf, IsUnknownIn}
+use Rattle.monitor_cli.proofs.Reported.{ends_by}
 use Rattle.monitor_cli.proofs.audit.do_audit.Goals as goal
 
 pub returns-in_err-map : goal.returns-in_err-map
@@ -18,25 +19,12 @@ returns-in_err-plan g c =
     let p = err_from_is_err_and c.from_residual-in_err-plan.result c.from_residual-in_err-plan.ensures.1 in
     rw (p.1, p.2) (inr (inr (inr (inr (inl (_, c.in_ok-map.ensures.made, c.in_err-plan.ensures.refused)))), refl))
 
-pub returns-in-Ok : goal.returns-in-Ok
-returns-in-Ok g c =
-    let w = rw c.as_slice.ensures.value at c.in-Ok.ensures.written in
-    let fewest = rw (sym c.entries.ensures) at c.in_ok-plan.ensures.planned.fewest in
-    let reached = rw (sym c.entries.ensures) at c.in_ok-plan.ensures.reached in
-    (w.1, (_, _, c.entries.result.now, c.in_ok-map.ensures.made, c.in_ok-listing.ensures.whole, fewest, reached, w.0), w.2)
-
 pub returns : goal.returns
 returns g c =
     let fewest = rw (sym c.entries.ensures) at c.in_ok-plan.ensures.planned.fewest in
     let reached = rw (sym c.entries.ensures) at c.in_ok-plan.ensures.reached in
-    let trouble = c.listing_trouble.ensures in
-    elim (by_fault c.args.registers c.in-Err.fault) [
-      | inl line ↦
-          let unknown = rw c.as_slice.ensures.value at c.in-Err.ensures.line line.0 (ap (λ f. Err f) line.1) in
-          rw (trouble ∙ line.2) (inr (inr (inr (inr (inr (_, line.0, c.in_ok-listing.ensures.whole, unknown.0, refl)))), unknown.1))
-      | inr (inl memory) ↦ rw (trouble ∙ memory.1) (inr (inl refl, c.in-Err.ensures.untouched (ap (λ f. Err f) memory.0)))
-      | inr (inr device) ↦
-          let w = rw c.as_slice.ensures.value at c.in-Err.ensures.broken (ap (λ f. Err f) device.0) in
-          rw (trouble ∙ device.1)
-          (inl (refl, (w.2, w.0, (_, _, c.entries.result.now, c.in_ok-map.ensures.made, c.in_ok-listing.ensures.whole, fewest, reached, w.1), w.3)))
-    ]
+    let ends = rw c.as_slice.ensures.value at c.print_audit.ensures in
+    ends_by _ _ _ _ _ c.print_audit.result
+    (λ text means is. (_, _, c.entries.result.now, c.in_ok-map.ensures.made, c.in_ok-listing.ensures.whole, fewest, reached, is))
+    (λ trouble unknown. inr (inr (inr (_, unknown.0, c.in_ok-listing.ensures.whole, unknown.1, unknown.2))))
+    ends

@@ -1,7 +1,7 @@
 use Rattle.std.proofs.Common.{◌≡◌, ℕ, List, Bool, true, false, Result, Ok, Err, IfOk, sym}
 use Rattle.std.specs.Str.{IsUtf8}
 use Rattle.input_files.specs.Platforms.{IsPlatformVerdict, IsTextVerdict}
-use Rattle.input_files.proofs.platform_lint.lint_bytes.Goals as goal
+use Rattle.input_files.proofs.platform_lint.find_in_bytes.Goals as goal
 
 verdict : (text bytes : List ℕ) (is : Bool) → text ≡ bytes → IsUtf8 bytes → IsTextVerdict text is → IsPlatformVerdict bytes is
 verdict text bytes true same utf8 said = (said.0, record { text = utf8; platform_text = rw same at said.1 })
@@ -14,4 +14,5 @@ answered f text bytes (Ok x) same utf8 said = verdict text bytes (f x) same utf8
 answered f text bytes (Err e) same utf8 said = tt
 
 pub returns-in-Ok : goal.returns-in-Ok
-returns-in-Ok c = answered (λ x. x.0) c.in-Ok.text.now c.args.bytes.now c.lint_text.result c.in-Ok.ensures.cases.0 c.in-Ok.ensures.cases.1 c.lint_text.ensures
+returns-in-Ok c =
+    answered (λ x. x) c.in-Ok.text.now c.args.bytes.now c.find_in_text.result c.in-Ok.ensures.cases.0 c.in-Ok.ensures.cases.1 c.find_in_text.ensures

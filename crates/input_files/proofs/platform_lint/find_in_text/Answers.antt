@@ -4,7 +4,7 @@ use Rattle.std.proofs.lemmas.Result.{IfErr-at_err}
 use Rattle.toml.specs.View.{table_view}
 use Rattle.input_files.specs.Breaches.{IsFaultOf, document_checks}
 use Rattle.input_files.proofs.Checked.{no_platform}
-use Rattle.input_files.proofs.platform_lint.lint_text.Goals as goal
+use Rattle.input_files.proofs.platform_lint.find_in_text.Goals as goal
 
 pub returns : goal.returns
 returns c = λ platform said.
