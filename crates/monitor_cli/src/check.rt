@@ -176,9 +176,9 @@ fn print_verdict<'a, W: Sink>(
             Ok(status)
         }
         ReportFormat::Json => {
-            let (text, status) = json_verdict(alloc, map, cert, found)?;
-            write_whole(out, text.as_slice())?;
-            Ok(status)
+            let said = json_verdict(alloc, map, cert, found)?;
+            write_whole(out, said.0.as_slice())?;
+            Ok(said.1)
         }
     }
 }
