@@ -196,16 +196,14 @@ fn object_text(
     ensures { IfOk result (λ text. text.items ≡ lint_text name.now is_valid findings.now) }
 {
     let items = items_of(alloc, name, findings)?;
-    let map = None;
     let report = Report {
         command: "lint",
         file: name,
-        map,
         verdict: verdict_word(is_valid),
         more: &[],
         findings: items.as_slice(),
     };
-    report_text(alloc, &report)
+    report_text(alloc, None, &report)
 }
 
 /// Returns a report on a file: whether it is valid, and the findings. The only error is a failed allocation.

@@ -1,5 +1,5 @@
 -- The object of a report.
-use Rattle.std.specs.Prelude.{ℕ, List, [], ◌∷◌, ◌++◌, Option, Some, None, codes, option_map}
+use Rattle.std.specs.Prelude.{ℕ, List, [], ◌∷◌, ◌++◌, Option, Some, None, codes}
 use Rattle.json_text.specs.declared.report.Report.{Report}
 use Rattle.json_text.specs.Strings.{json_string}
 
@@ -21,9 +21,8 @@ tail_text verdict more findings =
     ++ (codes "  \"findings\": [" ++ (findings ++ codes "\n  ]\n}\n")))))
 
 -- the object
-abbrev pub report_text : Report → List ℕ
-report_text report =
-    head_text report.command.now report.file.now (option_map (λ s. s.now) report.map)
+abbrev pub report_text : Option (List ℕ) → Report → List ℕ
+report_text map report = head_text report.command.now report.file.now map
     ++ tail_text report.verdict.now report.more.now report.findings.now
 
 -- a list of findings with one more: a comma if it is not the first, a newline, and the item

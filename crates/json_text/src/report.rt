@@ -14,8 +14,6 @@ pub struct Report<'a> {
     pub command: &'a str,
     /// The name of the file that the findings are about.
     pub file: &'a str,
-    /// The name of the map with which the file is compared, if there is one.
-    pub map: Option<&'a str>,
     /// The word for the verdict.
     pub verdict: &'a str,
     /// Further members, each with a comma and a newline after it.
@@ -77,12 +75,18 @@ fn push_tail(
     Ok(())
 }
 
-/// Returns the object of a report. The only error is a failed allocation.
-pub fn report_text(alloc: Global, report: &Report<'_>) -> Result<Vec<u8>, AllocError>
-    ensures { IfOk result (λ text. text.items ≡ report_text report.now) }
+/// Returns the object of a report. `map` is the name of the map with which the file is compared, if there is one. The
+/// only error is a failed allocation.
+pub fn report_text(
+    alloc: Global,
+    map: Option<&str>,
+    report: &Report<'_>,
+) -> Result<Vec<u8>, AllocError>
+    ensures { IfOk result (λ text. text.items
+        ≡ report_text (option_map (λ s. s.now) map.entry) report.now) }
 {
     let mut text = Vec::new(alloc);
-    push_head(&mut text, report.command, report.file, report.map)?;
+    push_head(&mut text, report.command, report.file, map)?;
     push_tail(&mut text, report.verdict, report.more, report.findings)?;
     Ok(text)
 }

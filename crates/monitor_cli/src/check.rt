@@ -103,16 +103,14 @@ fn accepted_object(
         ≡ accepted_object map.now cert.now header.now.version header.now.count) }
 {
     let members = accepted_members(header);
-    let map = Some(map);
     let report = Report {
         command: "check",
         file: cert,
-        map,
         verdict: "accepted",
         more: members.as_slice(),
         findings: &[],
     };
-    report_text(alloc, &report)
+    report_text(alloc, Some(map), &report)
 }
 
 /// Returns the object for a no. The only error is a failed allocation.
@@ -126,16 +124,14 @@ fn refused_object(
 {
     let mut findings = Vec::new(alloc);
     with_item(alloc, &mut findings, refusal_item(refusal).as_slice())?;
-    let map = Some(map);
     let report = Report {
         command: "check",
         file: cert,
-        map,
         verdict: "refused",
         more: &[],
         findings: findings.as_slice(),
     };
-    report_text(alloc, &report)
+    report_text(alloc, Some(map), &report)
 }
 
 /// Returns the object and the status that `check` gives for the result of checking a certificate. The only error is a

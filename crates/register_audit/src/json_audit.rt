@@ -142,16 +142,14 @@ fn object_of(
         answer.now.verdict.now answer.now.items.items) }
 {
     let counts = counts_of(alloc, listing, fewest, chained)?;
-    let map = Some(files.map);
     let report = Report {
         command: "audit",
         file: files.registers,
-        map,
         verdict: answer.verdict,
         more: counts.as_slice(),
         findings: answer.items.as_slice(),
     };
-    report_text(alloc, &report)
+    report_text(alloc, Some(files.map), &report)
 }
 
 /// Reads a listing of registers with this width, and returns whether they mean the map for a mode, with the JSON object
