@@ -1,3 +1,4 @@
+pub mod Items
 mod Members
 mod Checked
 mod Overlaps

@@ -29,7 +29,7 @@ pub seven :
 seven t0 t1 t2 t3 t4 t5 t6 t7 a b d e f g i h k l m n o p =
     two t0 t1 t7 a (b ++ (d ++ (e ++ (f ++ (g ++ i))))) h (six t1 t2 t3 t4 t5 t6 t7 b d e f g i k l m n o p)
 
-next_one : {A : Type 0} (all : List A) (i : ℕ) (d : A) → i < length all → drop i all ≡ slice_index_or all i d ∷ drop (i + 1) all
+pub next_one : {A : Type 0} (all : List A) (i : ℕ) (d : A) → i < length all → drop i all ≡ slice_index_or all i d ∷ drop (i + 1) all
 next_one all i d h = grind (arith, common_steps)
 
 -- a byte more of a string

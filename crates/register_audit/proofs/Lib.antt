@@ -1,5 +1,6 @@
 pub mod Answered
 pub mod JsonAnswered
+pub mod JsonStretches
 pub mod Each
 pub mod Cut
 pub mod Agreed
