@@ -3,7 +3,8 @@
 
   tests/integration/run.py PROGRAM
 
-The C for Zephyr is compiled with stand-ins for the macros of its header, and its partitions must be the map. The last line printed is
+The C for ESP-IDF and Zephyr is compiled with stand-ins for the macros of their headers, which print what they are given. ESP-IDF's
+registers must mean the map in user mode, and in machine mode below 4 GiB. Zephyr's partitions must be the map. The last line printed is
 'N passed, M failed'.
 """
 import itertools
@@ -22,6 +23,18 @@ from counting import Count  # noqa: E402
 TOP = Path(__file__).resolve().parents[2]
 SCRIPTS = TOP / "examples" / "integration"
 BOARDS = TOP / "examples" / "boards"
+ESP_IDF = r"""#include <stdio.h>
+enum { PMP_R = 1, PMP_W = 2, PMP_X = 4, PMP_TOR = 8, PMP_NA4 = 16, PMP_NAPOT = 24, PMP_L = 128 };
+static unsigned cfg[4];
+#define PMP_ENTRY_SET(ENTRY, ADDR, CFG) (printf("pmpaddr%d 0x%x\n", ENTRY, (ADDR) >> 2), cfg[(ENTRY) / 4] |= (unsigned)(CFG) << (ENTRY) % 4 * 8)
+#include "table.h"
+int main(void)
+{
+    load_pmp();
+    for (int i = 0; i < 4; i++)
+        printf("pmpcfg%d 0x%x\n", i, cfg[i]);
+}
+"""
 ZEPHYR = r"""#include <stdio.h>
 struct k_mem_partition { unsigned long start, size; const char *perm; };
 #define K_MEM_PARTITION_P_RO_U_RO "r"
@@ -112,15 +125,31 @@ def domains(trial, count):
 def no_plans(trial, count):
     """Tries an input without a plan."""
     log = trial.write("old.log", LOG_1_1)
-    for script, *words in (("opensbi_domain", log, "host", "/cpus/cpu@0"), ("zephyr_partitions", "thread")):
+    for script, *words in (("opensbi_domain", log, "host", "/cpus/cpu@0"), ("esp_idf_table",), ("zephyr_partitions", "thread")):
         status, _, told = trial.run(SCRIPTS / script, *words)
         count.note(status == 1 and told == f"{script}: standard input is no plan in JSON\n", f"{script} without a plan", told)
+
+
+def esp_idf(trial, count):
+    """Compiles the table of a board's map and audits its registers."""
+    board = BOARDS / "esp32-c3.map"
+    status, table, told = trial.run(SCRIPTS / "esp_idf_table", told=trial.plan(board, "--xlen", "32", "--tor"))
+    registers = trial.write("registers", trial.compiled(ESP_IDF, table) if status == 0 else told)
+    audit = (trial.program, "audit", board, registers, "--all", "--xlen", "32")
+    found = trial.run(*audit)[1]
+    count.note(found.startswith("means the map: 12 entries"), "ESP-IDF's table means its map in user mode", found)
+    # (the part has no addresses beyond 4 GiB, and its macros take none)
+    found = trial.run(*audit, "--mode", "m")[1]
+    count.note(found == "differs 0x0000000100000000 0x00000003ffffffff: map ---, no entry rwx\n", "and below 4 GiB in machine mode", found)
+    full = trial.plan(board, "--xlen", "32", "--tor", "--first", "4")
+    status, _, told = trial.run(SCRIPTS / "esp_idf_table", told=full)
+    count.note(status == 1 and "the hart has 16" in told, "ESP-IDF's table needs an entry of its own", told)
 
 
 def zephyr(trial, count):
     """Compiles partitions and compares them with their map."""
     for board in (BOARDS / "zephyr-tor.map", BOARDS / "esp32-c3.map", TOP / "examples" / "example-host.map"):
-        status, table, told = trial.run(SCRIPTS / "zephyr_partitions", "thread", told=trial.plan(board))
+        status, table, told = trial.run(SCRIPTS / "zephyr_partitions", "thread", told=trial.plan(board, "--tor"))
         told = trial.compiled(ZEPHYR, table) if status == 0 else told
         audited = trial.run(trial.program, "audit", trial.write("found.map", told), trial.write("plan", trial.run(trial.program, "plan", board)[1]))
         found = ranges(told)
@@ -133,7 +162,7 @@ def zephyr(trial, count):
 
 def main():
     count = Count()
-    for part in (elf_maps, domains, no_plans, zephyr):
+    for part in (elf_maps, domains, no_plans, esp_idf, zephyr):
         with tempfile.TemporaryDirectory() as folder:
             part(Trial(Path(sys.argv[1]).resolve(), folder), count)
     return count.end()
