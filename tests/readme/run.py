@@ -22,7 +22,7 @@ from counting import Count  # noqa: E402
 TOP = Path(__file__).resolve().parents[2]
 # Tools that a machine with the tests may lack, by the text of a command that needs them.
 HART = ("qemu-system-riscv64", "riscv64-unknown-elf-gcc")
-TOOLS = {"pmpmon-on-hart": HART, "app.elf": HART[1:], "elf_map": ("readelf",), **{it: (it,) for it in (*HART, "dtc", "gcc")}}
+TOOLS = {"pmpmon-on-hart": HART, "app.elf": HART[1:], "elf_map": ("readelf",), **{it: (it,) for it in (*HART, "dtc", "gcc", "jq")}}
 
 
 def commands(text):
