@@ -47,6 +47,9 @@ const OF_LISTING: &str =
 
 const OF_TRACE: &str = "hint: t:1:1: 'lead' is no event; write load\n";
 
+/// An empty certificate is refused.
+const OF_EMPTY: &str = "hint: c: the file ends here\n";
+
 const RUN: &[&str] = &["pmpmon", "run", "p", "t"];
 
 const LINT: &[&str] = &["pmpmon", "lint", "--trace", "t", "--platform", "p"];
@@ -71,7 +74,7 @@ fn the_first_input_at_fault_has_its_hints(rt: HostRuntime) {
             (&["pmpmon", "plan", "m"], WRONG, b"leap\n", OF_MAP),
             (&["pmpmon", "plan", "m"], MAP, b"", ""),
             (&["pmpmon", "show", "m"], MAP, b"", ""),
-            (&["pmpmon", "check", "m", "c"], MAP, b"", ""),
+            (&["pmpmon", "check", "m", "c"], MAP, b"", OF_EMPTY),
             (JUDGE, MAP, b"", ""),
             (&["pmpmon", "audit", "m", "r"], MAP, LISTING, OF_LISTING),
             (JUDGE, MAP, b"lead s 8 0\n", OF_TRACE),
